@@ -1,0 +1,3 @@
+//! The top call: from words and bytes to a status and bytes.
+//! Knows no threads.
+#![tactic(auto)]
