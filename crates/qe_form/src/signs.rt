@@ -1,0 +1,79 @@
+//! Sets of signs.
+
+ghost use Rattle.std.specs.Prelude.{◌≡◌};
+ghost use Rattle.qe_form.specs.Signs.{bits, union, intersection, complement, mirror};
+
+/// A set of signs out of minus, zero and plus.
+#[derive(Clone, Copy, Debug, PartialEq, Eq, Hash, PartialOrd, Ord)]
+pub struct Signs {
+    plus: bool,
+    zero: bool,
+    minus: bool,
+}
+
+impl Signs {
+    /// The set that has each sign whose argument is true.
+    pub fn of(minus: bool, zero: bool, plus: bool) -> Signs
+        ensures { result ≡ record { plus = plus; zero = zero; minus = minus } }
+    {
+        Signs { plus, zero, minus }
+    }
+
+    /// The sum of 1 for minus, 2 for zero and 4 for plus: from 0, for no sign, to 7, for all of them.
+    pub fn bits(self) -> u8
+        ensures { result ≡ bits self }
+    {
+        u8::from(self.minus) + 2 * u8::from(self.zero) + 4 * u8::from(self.plus)
+    }
+
+    /// The signs in either set.
+    pub fn union(self, other: Signs) -> Signs
+        ensures { result ≡ union self other }
+    {
+        Signs {
+            plus: self.plus || other.plus,
+            zero: self.zero || other.zero,
+            minus: self.minus || other.minus,
+        }
+    }
+
+    /// The signs in both sets.
+    pub fn intersect(self, other: Signs) -> Signs
+        ensures { result ≡ intersection self other }
+    {
+        Signs {
+            plus: self.plus && other.plus,
+            zero: self.zero && other.zero,
+            minus: self.minus && other.minus,
+        }
+    }
+
+    /// The signs outside the set.
+    pub fn complement(self) -> Signs
+        ensures { result ≡ complement self }
+    {
+        Signs {
+            plus: !self.plus,
+            zero: !self.zero,
+            minus: !self.minus,
+        }
+    }
+
+    /// The signs of the negatives: minus and plus change places.
+    pub fn mirror(self) -> Signs
+        ensures { result ≡ mirror self }
+    {
+        Signs {
+            plus: self.minus,
+            zero: self.zero,
+            minus: self.plus,
+        }
+    }
+
+    /// Whether zero is in the set.
+    pub fn has_zero(self) -> bool
+        ensures { result ≡ self.zero }
+    {
+        self.zero
+    }
+}
