@@ -1,0 +1,6 @@
+use Rattle.std.proofs.Common.{◌≡◌, take, map}
+use Rattle.qe_poly.specs.Rows.{shown}
+use Rattle.qe_poly.proofs.poly.Poly.copy.Given as goal
+
+abbrev pub invariant-loop-term : goal.invariant-loop-term
+invariant-loop-term l = map shown l.terms.items ≡ map shown (take l.term-index l.term-items)

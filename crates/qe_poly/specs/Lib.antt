@@ -1,0 +1,3 @@
+pub mod Monomial
+pub mod Polynomial
+pub mod Rows

@@ -1,0 +1,13 @@
+//! Polynomials in many variables with whole coefficients: exact, or the limit that an operation met.
+//! Knows nothing of formulas and of the numbers that stand for the variables.
+#![tactic(auto)]
+
+mod limit;
+mod monomial;
+mod poly;
+mod term;
+
+pub use limit::{PolyLimit, PolyStop};
+pub use monomial::{Power, Var};
+pub use poly::Poly;
+pub use std::alloc::AllocError as OutOfMemory;

@@ -1,0 +1,11 @@
+//! Terms of polynomials.
+
+use crate::monomial::Monomial;
+use qe_coef::Coef;
+
+/// A monomial with its coefficient, which is not 0 in a polynomial.
+#[derive(Drop)]
+pub struct Term {
+    pub monomial: Monomial,
+    pub coef: Coef,
+}
