@@ -82,3 +82,87 @@ fn copy_all(alloc: Global, forms: &Forms) -> Result<Forms, OutOfMemory>
     }
     Ok(copies)
 }
+
+#[cfg(test)]
+mod tests {
+    use super::*;
+    use qe_coef::Coef;
+    use std::fmt::Write;
+    use std::test::Fail;
+
+    fn atom(alloc: Global, signs: Signs) -> Result<Form, OutOfMemory> {
+        Ok(Form::Atom(Atom {
+            poly: Poly::constant(alloc, Coef::zero())?,
+            signs,
+        }))
+    }
+
+    fn pair(alloc: Global, first: Form, second: Form) -> Result<Forms, OutOfMemory> {
+        let mut forms = Sequence::new(alloc);
+        forms.push(first)?;
+        forms.push(second)?;
+        Ok(forms)
+    }
+
+    // Each kind of formula stands in it, and both lists have two parts.
+    fn of_each_kind(alloc: Global) -> Result<Form, OutOfMemory> {
+        let minus = atom(alloc, Signs::of(true, false, false))?;
+        let plus = atom(alloc, Signs::of(false, false, true))?;
+        let exists = Form::Ex(Var(3), Box::new(alloc, Form::True)?);
+        let same = Form::Iff(Box::new(alloc, minus)?, Box::new(alloc, Form::False)?);
+        let either = Form::Or(pair(alloc, plus, Form::True)?);
+        let always = Form::All(Var(5), Box::new(alloc, either)?);
+        let not_always = Form::Not(Box::new(alloc, always)?);
+        let implies = Form::Implies(Box::new(alloc, same)?, Box::new(alloc, not_always)?);
+        Ok(Form::And(pair(alloc, exists, implies)?))
+    }
+
+    // An atom by the bits of its signs, and a quantifier with the number of its variable.
+    fn spell_kind(form: &Form, out: &mut String) -> Result<(), OutOfMemory> {
+        match form {
+            Form::True => out.push_str(" true"),
+            Form::False => out.push_str(" false"),
+            Form::Atom(atom) => write!(out, " {}", atom.signs.bits()),
+            Form::And(_) => out.push_str(" and"),
+            Form::Or(_) => out.push_str(" or"),
+            Form::Not(_) => out.push_str(" not"),
+            Form::Implies(_, _) => out.push_str(" implies"),
+            Form::Iff(_, _) => out.push_str(" iff"),
+            Form::Ex(var, _) => write!(out, " ex {}", var.0),
+            Form::All(var, _) => write!(out, " all {}", var.0),
+        }
+    }
+
+    // Each kind before its parts.
+    #[cycle(spell)]
+    fn spell(form: &Form, out: &mut String) -> Result<(), OutOfMemory> {
+        spell_kind(form, out)?;
+        match form {
+            Form::True | Form::False | Form::Atom(_) => Ok(()),
+            Form::And(parts) | Form::Or(parts) => spell_all(parts, out),
+            Form::Not(inner) | Form::Ex(_, inner) | Form::All(_, inner) => spell(inner, out),
+            Form::Implies(left, right) | Form::Iff(left, right) => {
+                spell(left, out)?;
+                spell(right, out)
+            }
+        }
+    }
+
+    #[cycle(spell)]
+    fn spell_all(forms: &Forms, out: &mut String) -> Result<(), OutOfMemory> {
+        for form in forms.items() {
+            spell(form, out)?;
+        }
+        out.push_str(" end")
+    }
+
+    #[test]
+    fn copies_each_kind(rt: HostRuntime) -> Result<(), Fail> {
+        let copy = of_each_kind(rt.alloc())?.copy(rt.alloc())?;
+        let mut spelled = String::new(rt.alloc());
+        spell(&copy, &mut spelled)?;
+        let want = " and ex 3 true implies iff 1 false not all 5 or 4 true end end";
+        assert_eq!(rt; spelled.as_str(), want);
+        Ok(())
+    }
+}

@@ -72,3 +72,24 @@ pub struct Input {
     pub form: Form,
     pub names: Names,
 }
+
+#[cfg(test)]
+mod tests {
+    use super::*;
+    use std::test::Fail;
+
+    #[test]
+    fn finds_a_name_by_its_number(rt: HostRuntime) -> Result<(), Fail> {
+        let mut names = Names::new(rt.alloc());
+        assert_eq!(rt; names.len(), 0);
+        names.push(String::from_str(rt.alloc(), "x")?)?;
+        names.push(String::from_str(rt.alloc(), "y1")?)?;
+        assert_eq!(rt; names.len(), 2);
+        assert_eq!(rt; names.items().len(), 2);
+        assert_eq!(rt; names.items()[1].as_str(), "y1");
+        for (number, want) in [(0, Some("x")), (1, Some("y1")), (2, None), (u32::MAX, None)] {
+            assert_eq!(rt; names.get(Var(number)), want, "name {number}");
+        }
+        Ok(())
+    }
+}

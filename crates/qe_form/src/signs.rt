@@ -77,3 +77,51 @@ impl Signs {
         self.zero
     }
 }
+
+#[cfg(test)]
+mod tests {
+    use super::*;
+
+    // Minus, zero and plus of each set, then its bits, those of its complement and those of its mirror.
+    #[test]
+    fn knows_all_eight_sets(rt: HostRuntime) {
+        for (minus, zero, plus, bits, complement, mirror) in [
+            (false, false, false, 0, 7, 0),
+            (true, false, false, 1, 6, 4),
+            (false, true, false, 2, 5, 2),
+            (true, true, false, 3, 4, 6),
+            (false, false, true, 4, 3, 1),
+            (true, false, true, 5, 2, 5),
+            (false, true, true, 6, 1, 3),
+            (true, true, true, 7, 0, 7),
+        ] {
+            let signs = Signs::of(minus, zero, plus);
+            assert_eq!(rt; signs.bits(), bits);
+            assert_eq!(rt;
+                signs.complement().bits(),
+                complement,
+                "complement of {bits}"
+            );
+            assert_eq!(rt; signs.mirror().bits(), mirror, "mirror of {bits}");
+            assert_eq!(rt; signs.has_zero(), zero, "zero in {bits}");
+        }
+    }
+
+    // Two sets, what is in either and what is in both.
+    #[test]
+    fn joins_and_meets(rt: HostRuntime) {
+        let minus = Signs::of(true, false, false);
+        let plus = Signs::of(false, false, true);
+        let at_most_zero = Signs::of(true, true, false);
+        let at_least_zero = Signs::of(false, true, true);
+        for (left, right, union, intersection) in [
+            (minus, plus, 5, 0),
+            (minus, at_most_zero, 3, 1),
+            (at_most_zero, at_least_zero, 7, 2),
+            (at_least_zero, plus, 6, 4),
+        ] {
+            assert_eq!(rt; left.union(right).bits(), union);
+            assert_eq!(rt; left.intersect(right).bits(), intersection);
+        }
+    }
+}
