@@ -1,8 +1,9 @@
-//! The types of formulas: sets of signs, atoms, formulas and the names of their variables.
-//! Knows nothing of points, truth and elimination.
+//! Formulas: sets of signs, atoms, formulas and the names of their variables, and what they mean.
+//! Knows nothing of elimination. Value, truth and sameness are defined in specs/.
 #![tactic(auto)]
 
 mod form;
+pub mod laws;
 mod names;
 mod signs;
 

@@ -1,0 +1,33 @@
+//! The laws of truth. Each function does nothing: its clause is the law.
+
+ghost use Rattle.qe_form.specs.Laws.{NeverBoth, Decided, Classical, SameIsPreorder, SameIsKept, SameIsLiteral};
+
+/// No formula is both true and false at a point.
+pub fn never_both()
+    ensures { NeverBoth }
+{}
+
+/// A formula without quantifiers is true or false at every point.
+pub fn decided()
+    ensures { Decided }
+{}
+
+/// Where excluded middle holds of truth at a point, each formula is true or false at each point.
+pub fn classical()
+    ensures { Classical }
+{}
+
+/// `Same` is reflexive and transitive, and symmetric where both have the same free variables.
+pub fn same_is_preorder()
+    ensures { SameIsPreorder }
+{}
+
+/// `Same` is kept by every connective and quantifier.
+pub fn same_is_kept()
+    ensures { SameIsKept }
+{}
+
+/// Where the second formula has no quantifier, both are true or both are false.
+pub fn same_is_literal()
+    ensures { SameIsLiteral }
+{}
