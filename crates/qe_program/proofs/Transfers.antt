@@ -1,0 +1,24 @@
+-- How what a sink took, and what a source has left, changes over several calls.
+use Rattle.std.proofs.Common.{ℕ, List, [], ◌++◌, take, drop, refl, sym, ap, ◌∙◌, append_assoc, take-append-drop}
+use Rattle.std.specs.Io.KnownBytes.{Appends, Consumes}
+use Rattle.std.proofs.KnownBytes.{Appends-nil, Appends-trans, Consumes-trans}
+use Rattle.std.specs.declared.option.Option.{Option}
+use Rattle.qe_program.specs.Source.{LosesFront}
+use Rattle.qe_program.specs.Sink.{AppendsUpTo}
+
+-- nothing was appended yet
+pub AppendsUpTo-refl : (a : Option (List ℕ)) (bytes : List ℕ) → AppendsUpTo a a bytes bytes
+AppendsUpTo-refl a bytes = record { front = []; parts = refl; grown = Appends-nil a }
+
+-- the first n bytes of the rest were appended too
+pub AppendsUpTo-more : (a b c : Option (List ℕ)) (bytes rest : List ℕ) (n : ℕ) → AppendsUpTo a b bytes rest → Appends b c (take n rest)
+    → AppendsUpTo a c bytes (drop n rest)
+AppendsUpTo-more a b c bytes rest n before more = record {
+  front = before.front ++ take n rest;
+  parts = before.parts ∙ ap (λ l. before.front ++ l) (sym (take-append-drop n rest)) ∙ sym (append_assoc before.front (take n rest) (drop n rest));
+  grown = Appends-trans a b c before.front (take n rest) before.grown more;
+}
+
+-- bytes were taken, and then more of them
+pub LosesFront-after : (a b c : Option (List ℕ)) (bytes : List ℕ) → Consumes a b bytes → LosesFront b c → LosesFront a c
+LosesFront-after a b c bytes before more = record { taken = bytes ++ more.taken; front = Consumes-trans a b c bytes more.taken before more.front }
