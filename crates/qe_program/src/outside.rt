@@ -1,10 +1,12 @@
 //! Where bytes come from and where they go: the two traits, whole reads and writes over them, and their ends.
 //! Knows nothing of formulas, words or statuses.
 
+pub mod memory;
 pub mod sink;
 pub mod source;
 pub mod whole;
 
+pub use memory::MemSource;
 pub use sink::Sink;
 pub use source::{Failed, Source};
 pub use std::alloc::AllocError as OutOfMemory;
