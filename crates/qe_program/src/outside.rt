@@ -6,7 +6,7 @@ pub mod sink;
 pub mod source;
 pub mod whole;
 
-pub use memory::MemSource;
+pub use memory::{MemSink, MemSource};
 pub use sink::Sink;
 pub use source::{Failed, Source};
 pub use std::alloc::AllocError as OutOfMemory;
