@@ -1,0 +1,6 @@
+pub mod Order
+pub mod Sorted
+pub mod Gathered
+pub mod Canonical
+pub mod MergedRows
+pub mod Merging

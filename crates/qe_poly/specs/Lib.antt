@@ -1,3 +1,4 @@
 pub mod Monomial
 pub mod Polynomial
+pub mod Limits
 pub mod Rows
