@@ -2,3 +2,4 @@ pub mod Monomial
 pub mod Polynomial
 pub mod Limits
 pub mod Rows
+pub mod Equal
