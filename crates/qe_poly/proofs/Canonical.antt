@@ -42,7 +42,7 @@ below-nonzero m (t ∷ ts) below =
       | false ↦ below_cons m t (nonzero ts) (below_first m t ts below) rest
     ]
 
-not_zero : (c : ℤ) → int_eq c (pos 0) ≡ false → c ≢ pos 0
+pub not_zero : (c : ℤ) → int_eq c (pos 0) ≡ false → c ≢ pos 0
 not_zero c test zero = absurd (let same : int_eq c (pos 0) ≡ true = (Decides-int_eq c (pos 0)).1 zero in cc)
 
 pub IsPolynomial-nonzero : (ts : List Term) → T (is_sorted in_turn ts) → Each (λ t. IsMonomial t.0) ts → IsPolynomial (nonzero ts)

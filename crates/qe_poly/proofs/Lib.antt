@@ -5,4 +5,5 @@ pub mod Canonical
 pub mod MergedRows
 pub mod MergedSums
 pub mod KeptTerms
+pub mod Constants
 pub mod Merging
