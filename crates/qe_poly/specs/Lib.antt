@@ -1,3 +1,5 @@
 pub mod Monomial
 pub mod Polynomial
+pub mod Limits
 pub mod Rows
+pub mod Equal

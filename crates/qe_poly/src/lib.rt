@@ -3,6 +3,7 @@
 #![tactic(auto)]
 
 mod limit;
+mod sum;
 mod monomial;
 mod poly;
 mod term;

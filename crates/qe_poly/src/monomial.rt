@@ -3,12 +3,14 @@
 ghost use Rattle.std.specs.Prelude.{◌≡◌, ◌↔◌, [], IsTrue, IfOk};
 ghost use Rattle.std.proofs.Common.{rules};
 ghost use Rattle.std.specs.Ordering.{as_partial_cmp};
-ghost use Rattle.std.specs.Cmp.{partial_order_from_own_ties};
+ghost use Rattle.std.specs.Cmp.{partial_equiv_from_equiv, partial_order_from_own_ties};
 ghost use Rattle.std.specs.Cmp.Rules.{comparing};
 ghost use Rattle.qe_poly.specs.Monomial.{monomial_cmp, power_cmp};
+ghost use Rattle.qe_poly.specs.Equal.{monomial_eq, monomial_eq_equiv, monomial_fed, monomial_fed_alike};
 
 use std::alloc::{AllocError, Global};
 use std::cmp::Ordering;
+use std::hash::{Hash, Hasher};
 use std::marker::Model;
 
 /// A variable, by its number.
@@ -102,5 +104,29 @@ impl Monomial {
         ensures { result ≡ monomial_cmp self.now other.now }
     {
         self.powers.as_slice().cmp(other.powers.as_slice())
+    }
+}
+
+impl PartialEq for Monomial {
+    ghost eq = { monomial_eq };
+
+    ghost laws = { partial_equiv_from_equiv monomial_eq_equiv };
+
+    fn eq(&self, other: &Monomial) -> bool {
+        self.powers == other.powers
+    }
+}
+
+impl Eq for Monomial {
+    ghost laws = { monomial_eq_equiv };
+}
+
+impl Hash for Monomial {
+    ghost hash_input = { monomial_fed };
+
+    ghost respects_eq = { monomial_fed_alike };
+
+    fn hash<H: Hasher>(&self, state: &mut H) {
+        self.powers.hash(state);
     }
 }

@@ -1,12 +1,18 @@
 //! Polynomials and their operations.
 
-ghost use Rattle.std.specs.Prelude.{◌≡◌, IfOk};
+ghost use Rattle.std.specs.Prelude.{ℤ, ◌≡◌, ◌≢◌, IfOk, IfSome, IfNone};
+ghost use Rattle.std.specs.Cmp.{partial_equiv_from_equiv};
 ghost use Rattle.qe_poly.specs.Polynomial as spec;
+ghost use Rattle.qe_poly.specs.Limits.{IsAnswer, sum_limit};
+ghost use Rattle.qe_poly.specs.Equal.{poly_eq, poly_eq_equiv, poly_fed, poly_fed_alike};
 
+use crate::limit::PolyStop;
 use crate::monomial::Monomial;
+use crate::sum::combine;
 use crate::term::Term;
-use qe_coef::Coef;
+use qe_coef::{Coef, Op};
 use std::alloc::{AllocError, Global};
+use std::hash::{Hash, Hasher};
 use std::marker::Model;
 
 /// A polynomial: terms from the greatest monomial to the least, without zeros, so that equal polynomials have equal terms.
@@ -54,5 +60,70 @@ impl Poly {
             })?;
         }
         Ok(Poly { terms })
+    }
+    /// The sum. More than 4,096 monomials in the two are a limit, and else the greatest monomial whose sum is out of range, with its two coefficients.
+    pub fn add(&self, alloc: Global, other: &Poly) -> Result<Poly, PolyStop>
+        ensures { IsAnswer (sum_limit Op.Add self.now other.now) (spec.sum self.now other.now) result }
+    {
+        let terms = combine(alloc, &self.terms, &other.terms, Op::Add)?;
+        Ok(Poly { terms })
+    }
+
+    /// The difference, with the limits of `add`.
+    pub fn sub(&self, alloc: Global, other: &Poly) -> Result<Poly, PolyStop>
+        ensures { IsAnswer (sum_limit Op.Sub self.now other.now) (spec.difference self.now other.now) result }
+    {
+        let terms = combine(alloc, &self.terms, &other.terms, Op::Sub)?;
+        Ok(Poly { terms })
+    }
+
+    /// The negative.
+    pub fn neg(&self, alloc: Global) -> Result<Poly, AllocError>
+        ensures { IfOk result (λ p. p ≡ spec.negative self.now) }
+    {
+        let mut terms = Vec::with_capacity(alloc, self.terms.len())?;
+        for term in &self.terms {
+            terms.push(Term {
+                monomial: term.monomial.copy(alloc)?,
+                coef: term.coef.neg(),
+            })?;
+        }
+        Ok(Poly { terms })
+    }
+
+    /// The number that the polynomial is, or `None` where it has a variable.
+    pub fn as_constant(&self) -> Option<Coef>
+        ensures constant { IfSome result (λ c. self.now ≡ spec.constant c) }
+        ensures other { IfNone result ((c : ℤ) → self.now ≢ spec.constant c) }
+    {
+        match self.terms.as_slice() {
+            [] => Some(Coef::zero()),
+            [term] if term.monomial.is_one() => Some(term.coef),
+            _ => None,
+        }
+    }
+}
+
+impl PartialEq for Poly {
+    ghost eq = { poly_eq };
+
+    ghost laws = { partial_equiv_from_equiv poly_eq_equiv };
+
+    fn eq(&self, other: &Poly) -> bool {
+        self.terms == other.terms
+    }
+}
+
+impl Eq for Poly {
+    ghost laws = { poly_eq_equiv };
+}
+
+impl Hash for Poly {
+    ghost hash_input = { poly_fed };
+
+    ghost respects_eq = { poly_fed_alike };
+
+    fn hash<H: Hasher>(&self, state: &mut H) {
+        self.terms.hash(state);
     }
 }

@@ -1,0 +1,7 @@
+use Rattle.std.proofs.Common.{◌≡◌, ◌++◌, map, drop}
+use Rattle.qe_poly.specs.Polynomial.{negative}
+use Rattle.qe_poly.specs.Rows.{shown}
+use Rattle.qe_poly.proofs.poly.Poly.neg.Given as goal
+
+abbrev pub invariant-loop-term : goal.invariant-loop-term
+invariant-loop-term l = map shown l.terms.items ++ negative (map shown (drop l.term-index l.term-items)) ≡ negative (map shown l.term-items)
