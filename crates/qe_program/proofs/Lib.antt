@@ -1,1 +1,5 @@
 pub mod Transfers
+pub mod Scanned
+pub mod Compared
+pub mod Differences
+pub mod Decided

@@ -1,4 +1,13 @@
 pub mod Count
-pub mod Memory
-pub mod Sink
 pub mod Source
+pub mod Sink
+pub mod Memory
+pub mod Scan
+pub mod Comparison
+pub mod Reading
+pub mod Input
+pub mod Status
+pub mod Decide
+pub mod Output
+pub mod Headline
+pub mod Causes

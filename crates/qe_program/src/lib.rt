@@ -2,4 +2,9 @@
 //! Knows no threads.
 #![tactic(auto)]
 
+mod comparison;
+mod decide;
 pub mod outside;
+mod status;
+
+pub use status::Status;

@@ -1,0 +1,25 @@
+-- The texts that are written.
+use Rattle.std.specs.Prelude.{ℕ, ◌≡◌, List, [], ◌∷◌, ◌++◌, codes}
+use Rattle.qe_form.specs.Formula.{Formula, True, False}
+
+-- a text with a line feed at its end
+abbrev pub line : List ℕ → List ℕ
+line text = text ++ 10 ∷ []
+
+abbrev pub usage_line : List ℕ
+usage_line = line (codes "usage: qe [eliminate|answers|summary|make] [--workers W] [--nodes N] [--number K]")
+
+abbrev pub not_built_line : List ℕ
+not_built_line = line (codes "bad input: not built")
+
+-- the formula is true or false itself; no other is written yet
+abbrev pub IsDecided : Formula → Type 0
+IsDecided True = Unit {0}
+IsDecided False = Unit {0}
+IsDecided f = ⊥
+
+-- the text of a decided formula
+abbrev pub IsText : Formula → List ℕ → Type 0
+IsText True text = text ≡ codes "true"
+IsText False text = text ≡ codes "false"
+IsText f text = ⊥
