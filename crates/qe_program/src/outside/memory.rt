@@ -29,11 +29,12 @@ impl Model for MemSource {
     ghost Value = { Supply };
 
     ghost view = { λ s. record {
-        left = drop s.position s.bytes.items;
-        reads = s.reads;
-        cuts = s.cuts.items;
-        failing = s.failing.items;
-        faults = s.faults } };
+      left = drop s.position s.bytes.items;
+      reads = s.reads;
+      cuts = s.cuts.items;
+      failing = s.failing.items;
+      faults = s.faults;
+    } };
 
     // A fault is at a number that is listed, so there are at most 2^32 of them.
     ghost invariant = { λ s. (s.position ≤ vec_len s.bytes) × (s.faults ≤ s.reads) × (s.faults ≤ 2 ^ 32) };
@@ -111,19 +112,25 @@ impl Model for MemSink {
     ghost Value = { Store };
 
     ghost view = { λ s. record {
-        taken = s.taken.items;
-        room = s.room;
-        writes = s.writes;
-        cuts = s.cuts.items;
-        failing = s.failing.items;
-        faults = s.faults } };
+      taken = s.taken.items;
+      room = s.room;
+      writes = s.writes;
+      cuts = s.cuts.items;
+      failing = s.failing.items;
+      faults = s.faults;
+    } };
 
     ghost invariant = { λ s. (vec_len s.taken ≤ s.room) × (s.room ≤ vec_capacity s.taken) };
 }
 
 impl MemSink {
     /// A sink with room for this many bytes, whose memory is taken here, and with no write made yet.
-    pub fn new(alloc: Global, room: u32, cuts: Vec<u32>, failing: Vec<u32>) -> Result<MemSink, OutOfMemory>
+    pub fn new(
+        alloc: Global,
+        room: u32,
+        cuts: Vec<u32>,
+        failing: Vec<u32>,
+    ) -> Result<MemSink, OutOfMemory>
         ensures { IfOk result (λ sink. sink ≡ record { taken = []; room = room; writes = 0; cuts = cuts.items; failing = failing.items; faults = 0 }) }
     {
         let room = room as usize;

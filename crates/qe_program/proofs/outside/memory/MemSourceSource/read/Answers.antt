@@ -1,4 +1,4 @@
-use Rattle.std.proofs.Common.{◌≡◌, ◌≤◌, ◌-◌, ap, sym, arith, length, take, drop, take_all, length-drop, List, ℕ}
+use Rattle.std.proofs.Common.{◌≡◌, ap, sym, arith, take, drop}
 use Rattle.std.proofs.lemmas.Grind.{common_steps}
 use Rattle.qe_program.proofs.Transfers.{copied_front}
 use Rattle.qe_program.proofs.outside.memory.MemSourceSource.read.Goals as goal
