@@ -1,5 +1,5 @@
 -- Constants: their differences and limits.
-use Rattle.std.proofs.Common.{◌≡◌, ◌≢◌, refl, sym, ap, subst, ◌∙◌, Bool, true, false, cond, [], ◌∷◌, ℕ, ◌<◌, ◌≤◌, ◌^◌, ◌-◌, ltb, Option, Some, None, Result, Ok, Err, ℤ, pos, unsigned_abs, arith, MatchResult}
+use Rattle.std.proofs.Common.{◌≡◌, refl, sym, ap, subst, ◌∙◌, Bool, true, false, cond, [], ◌∷◌, ◌≤◌, ◌^◌, ◌-◌, Option, Some, None, Result, Ok, Err, ℤ, pos, unsigned_abs, arith, MatchResult}
 use Rattle.std.specs.Prelude.{◌-ℤ◌, ◌≤ℤ◌}
 use Rattle.std.proofs.Math.IntN.{+ℤ_idr}
 use Rattle.std.proofs.lemmas.Int.{ints}
@@ -86,10 +86,15 @@ wide-in_range op a b in_range =
 pub IsInRange-difference : (a b : ℤ) → pos 0 ≤ℤ a → pos 0 ≤ℤ b → IsInRange a → IsInRange b → IsInRange (a -ℤ b)
 IsInRange-difference a b a_sign b_sign a_range b_range = omega (arith, ints)
 
--- so taking one constant from another meets no limit
-pub constants_subtracted : (a b : ℤ) (result : Result Polynomial PolyStop) → pos 0 ≤ℤ a → pos 0 ≤ℤ b → IsInRange a → IsInRange b
+met_none : (a b : ℤ) (result : Result Polynomial PolyStop) → IsInRange (a -ℤ b)
     → IsAnswer (sum_limit Sub (constant a) (constant b)) (difference (constant a) (constant b)) result → MatchResult result (λ p. p ≡ constant (a -ℤ b)) (λ stop. stop ≡ OutOfMemory)
-constants_subtracted a b (Ok p) a_sign b_sign a_range b_range answer = answer.1 ∙ difference-constants a b
-constants_subtracted a b (Err OutOfMemory) a_sign b_sign a_range b_range answer = refl
-constants_subtracted a b (Err (Limit met)) a_sign b_sign a_range b_range answer =
-    absurd (let none : sum_limit Sub (constant a) (constant b) ≡ None = sum_limit-constants Sub a b ∙ wide-in_range Sub a b (IsInRange-difference a b a_sign b_sign a_range b_range) in cc)
+met_none a b (Ok p) in_range answer = answer.1 ∙ difference-constants a b
+met_none a b (Err OutOfMemory) in_range answer = refl
+met_none a b (Err (Limit met)) in_range answer =
+    absurd (let none : sum_limit Sub (constant a) (constant b) ≡ None = sum_limit-constants Sub a b ∙ wide-in_range Sub a b in_range in cc)
+
+-- Taking one constant from another meets no limit, where neither is negative.
+pub constants_subtracted : (a b : ℤ) (p q : Polynomial) (result : Result Polynomial PolyStop) → pos 0 ≤ℤ a → pos 0 ≤ℤ b → IsInRange a → IsInRange b → p ≡ constant a → q ≡ constant b
+    → IsAnswer (sum_limit Sub p q) (difference p q) result → MatchResult result (λ r. r ≡ constant (a -ℤ b)) (λ stop. stop ≡ OutOfMemory)
+constants_subtracted a b p q result a_sign b_sign a_range b_range left right answer =
+    met_none a b result (IsInRange-difference a b a_sign b_sign a_range b_range) (subst (λ f. f) (λ i. IsAnswer (sum_limit Sub (left i) (right i)) (difference (left i) (right i)) result) answer)

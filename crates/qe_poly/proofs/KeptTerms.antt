@@ -1,5 +1,5 @@
 -- The terms of a polynomial as they are kept: their negatives, their equality, and what they feed a hasher.
-use Rattle.std.proofs.Common.{ℕ, suc, Bool, ◌≡◌, ◌≢◌, ◌≤◌, refl, List, [], ◌∷◌, map, ◌++◌, ap, sym, subst, ◌∙◌, drop, length}
+use Rattle.std.proofs.Common.{ℕ, suc, Bool, ◌≡◌, ◌≤◌, refl, List, [], ◌∷◌, map, ◌++◌, ap, sym, subst, ◌∙◌, drop, length}
 use Rattle.std.proofs.lemmas.List.{drop_all, append-nil}
 use Rattle.std.specs.Cmp.Derive.Mapped.{pointwise-map}
 use lib.Pointwise.{pointwise}

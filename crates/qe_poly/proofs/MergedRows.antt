@@ -1,12 +1,12 @@
 -- Two polynomials merged have the monomials of both, each with its two coefficients.
-use Rattle.std.proofs.Common.{◌≡◌, refl, sym, ap, subst, ◌∙◌, true, false, cond, T, List, [], ◌∷◌, ◌++◌, Option, Some, None, map, ℤ, pos}
+use Rattle.std.proofs.Common.{◌≡◌, refl, sym, ap, subst, ◌∙◌, true, false, cond, T, List, [], ◌∷◌, ◌++◌, Option, Some, None, ℤ, pos}
 use Rattle.std.specs.declared.cmp.Ordering.TheVariants.{Less, Equal, Greater}
 use Rattle.std.specs.Ordering.{is_eq, eq_by_cmp}
 use Rattle.std.specs.Cmp.{alike_right}
 use Rattle.std.specs.FinMap.Entries.{find, is_sorted, below_all, by_order, same_entries}
 use Rattle.qe_poly.specs.Monomial.{Monomial, in_turn}
 use Rattle.qe_poly.specs.Polynomial.{Term, Polynomial, Group, gathered, coefficient}
-use Rattle.qe_poly.specs.Rows.{Row, merged, merge_in}
+use Rattle.qe_poly.specs.Rows.{merged, merge_in}
 use Rattle.qe_poly.proofs.Order.{turn_total, turn_same}
 use Rattle.qe_poly.proofs.Sorted.{tied, less_back, below_first, below_rest, below_cons, below_sorted, sorted_first, sorted_rest, sorted_cons, find_before, under_keys, is_sorted-under_keys, new_value, find-under_keys}
 use Rattle.qe_poly.proofs.Gathered.{at, unless_none, is_sorted-gathered, find-gathered}

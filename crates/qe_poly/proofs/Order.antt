@@ -7,7 +7,7 @@ use Rattle.std.specs.Cmp.{IsTotalOrder, nat_cmp_total, on_total, then_total, bac
 use Rattle.std.specs.FinMap.{nat_cmp-IsAntisymmetric, slice_cmp-IsAntisymmetric}
 use Rattle.std.proofs.lemmas.Cmp.{lists_total}
 use Rattle.qe_poly.specs.declared.monomial.Power.{Power}
-use Rattle.qe_poly.specs.Monomial.{Monomial, power_cmp, monomial_cmp, in_turn}
+use Rattle.qe_poly.specs.Monomial.{Monomial, power_cmp, in_turn}
 
 power_total : IsTotalOrder power_cmp
 power_total = then_total (on_total (λ a. a.var.0) (back_total nat_cmp_total)) (on_total (λ a. a.exponent) nat_cmp_total)

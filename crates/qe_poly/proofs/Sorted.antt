@@ -3,7 +3,6 @@ use Rattle.std.proofs.Common.{◌≡◌, refl, sym, ap, subst, ◌∙◌, Bool, 
 use Rattle.std.specs.declared.cmp.Ordering.{Ordering}
 use Rattle.std.specs.declared.cmp.Ordering.TheVariants.{Less, Equal, Greater}
 use Rattle.std.specs.Ordering.{is_lt, is_eq, ordering_reverse, eq_by_cmp}
-use Rattle.std.specs.Cmp.{tied_itself}
 use Rattle.std.specs.FinMap.Entries.{find, is_sorted, below_all}
 use Rattle.qe_poly.specs.Monomial.{Monomial, in_turn}
 use Rattle.qe_poly.proofs.Order.{turn_total, turn_same}
@@ -13,10 +12,6 @@ use Rattle.qe_poly.proofs.Order.{turn_total, turn_same}
 abbrev pub Each : {X : Type 0} → (X → Type 0) → List X → Type 0
 Each P [] = Unit {0}
 Each P (x ∷ xs) = P x × Each P xs
-
-pub Each-map : {X : Type 0} (P Q : X → Type 0) → ((x : X) → P x → Q x) → (xs : List X) → Each P xs → Each Q xs
-Each-map P Q f [] each = tt
-Each-map P Q f (x ∷ xs) each = (f x each.0, Each-map P Q f xs each.1)
 
 pub Each-append : {X : Type 0} (P : X → Type 0) (xs ys : List X) → Each P xs → Each P ys → Each P (xs ++ ys)
 Each-append P [] ys left right = right
@@ -93,21 +88,6 @@ module _ {X : Type 0} where
   -- a monomial that ties with one before all is not found
   pub find_before : (m n : Monomial) (es : List (Monomial × X)) → eq_by_cmp in_turn m n ≡ true → T (below_all in_turn n es) → find in_turn m es ≡ None
   find_before m n es tie below = find_below m es (subst (λ k. T (below_all in_turn k es)) (sym (tied m n tie)) below)
-
-  found_later : (e : Monomial × X) (es fs : List (Monomial × X)) → T (below_all in_turn e.0 es) → Each (λ g. find in_turn g.0 fs ≡ Some g.1) es → Each (λ g. find in_turn g.0 (e ∷ fs) ≡ Some g.1) es
-  found_later e [] fs below each = tt
-  found_later e (g ∷ es) fs below each = (
-    ap (λ r. cond (is_eq r) (Some e.1) (find in_turn g.0 fs)) (turn_total.antisymm g.0 e.0 ∙ ap ordering_reverse (below_first e.0 g es below)) ∙ each.0,
-    found_later e es fs (below_rest e.0 g es below) each.1,
-  )
-
-  -- each entry is found by its monomial
-  pub all_found : (es : List (Monomial × X)) → T (is_sorted in_turn es) → Each (λ g. find in_turn g.0 es ≡ Some g.1) es
-  all_found [] sorted = tt
-  all_found (e ∷ es) sorted = (
-    ap (λ r. cond (is_eq r) (Some e.1) (find in_turn e.0 es)) (tied_itself turn_total e.0),
-    found_later e es es (sorted_first e es sorted) (all_found es (sorted_rest e es sorted)),
-  )
 
 -- ---- new values under the same monomials
 

@@ -3,9 +3,9 @@
 #![tactic(auto)]
 
 mod limit;
-mod sum;
 mod monomial;
 mod poly;
+mod sum;
 mod term;
 
 pub use limit::{PolyLimit, PolyStop};

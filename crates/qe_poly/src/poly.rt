@@ -127,3 +127,56 @@ impl Hash for Poly {
         self.terms.hash(state);
     }
 }
+
+#[cfg(test)]
+mod tests {
+    use super::*;
+    use crate::limit::PolyLimit;
+    use qe_coef::Wide;
+    use std::test::Fail;
+
+    const MOST: i128 = i128::MAX;
+
+    fn coef(value: i128) -> Coef {
+        Coef::of(value).unwrap_or(Coef::zero())
+    }
+
+    /// The number that an operation gave, or why it gave none.
+    fn number(outcome: Result<Poly, PolyStop>) -> Result<Option<i128>, PolyStop> {
+        match outcome {
+            Ok(poly) => Ok(poly.as_constant().map(|c| c.value())),
+            Err(stop) => Err(stop),
+        }
+    }
+
+    fn wide(op: Op, left: i128, right: i128) -> Result<Option<i128>, PolyStop> {
+        Err(PolyStop::Limit(PolyLimit::Coefficient(Wide {
+            op,
+            left: coef(left),
+            right: coef(right),
+        })))
+    }
+
+    #[test]
+    fn adds_and_subtracts_constants(rt: HostRuntime) -> Result<(), Fail> {
+        let alloc = rt.alloc();
+        let cases = [
+            (2, 3, -2, Ok(Some(5)), Ok(Some(-1))),
+            (5, 5, -5, Ok(Some(10)), Ok(Some(0))),
+            (-7, 7, 7, Ok(Some(0)), Ok(Some(-14))),
+            (0, 4, 0, Ok(Some(4)), Ok(Some(-4))),
+            (MOST, 1, -MOST, wide(Op::Add, MOST, 1), Ok(Some(MOST - 1))),
+            (-MOST, 1, MOST, Ok(Some(1 - MOST)), wide(Op::Sub, -MOST, 1)),
+        ];
+        for (left, right, negative, sum, difference) in cases {
+            let p = Poly::constant(alloc, coef(left))?;
+            let q = Poly::constant(alloc, coef(right))?;
+            assert_eq!(rt; number(p.add(alloc, &q)), sum);
+            assert_eq!(rt; number(p.sub(alloc, &q)), difference);
+            assert_eq!(rt; p == q, left == right);
+            assert!(rt; p.copy(alloc)? == p);
+            assert_eq!(rt; p.neg(alloc)?.as_constant(), Some(coef(negative)));
+        }
+        Ok(())
+    }
+}
