@@ -5,13 +5,17 @@ use Rattle.qe_form.specs.Same.{HasNoQuantifier, Same}
 use Rattle.qe_program.specs.Input.{IsInput}
 use Rattle.qe_program.specs.Output.{line, IsText}
 
--- the text is the line of a formula without quantifiers that means the same as the one that the bytes stand for
-pub record Headline (bytes text : List ℕ) : Type 0 where
-  pub given : Formula
-  pub is_input : IsInput bytes given
+-- the text is the line of a formula without quantifiers that means the same as the given one
+pub record IsAnswer (given : Formula) (text : List ℕ) : Type 0 where
   pub answer : Formula
   pub answer_text : List ℕ
   pub is_text : IsText answer answer_text
   pub written : text ≡ line answer_text
   pub no_quantifier : HasNoQuantifier answer
   pub same_points : Same given answer
+
+-- the bytes stand for a formula, and the text answers it
+pub record Headline (bytes text : List ℕ) : Type 0 where
+  pub given : Formula
+  pub is_input : IsInput bytes given
+  pub is_answer : IsAnswer given text

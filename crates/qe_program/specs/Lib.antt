@@ -6,8 +6,9 @@ pub mod Scan
 pub mod Comparison
 pub mod Reading
 pub mod Input
-pub mod Status
 pub mod Decide
+pub mod Status
 pub mod Output
 pub mod Headline
 pub mod Causes
+pub mod Reply

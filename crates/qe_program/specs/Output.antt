@@ -12,13 +12,7 @@ usage_line = line (codes "usage: qe [eliminate|answers|summary|make] [--workers 
 abbrev pub not_built_line : List ℕ
 not_built_line = line (codes "bad input: not built")
 
--- the formula is true or false itself; no other is written yet
-abbrev pub IsDecided : Formula → Type 0
-IsDecided True = Unit {0}
-IsDecided False = Unit {0}
-IsDecided f = ⊥
-
--- the text of a decided formula
+-- the text of a formula; none but true and false is written yet
 abbrev pub IsText : Formula → List ℕ → Type 0
 IsText True text = text ≡ codes "true"
 IsText False text = text ≡ codes "false"

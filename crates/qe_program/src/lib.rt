@@ -4,7 +4,10 @@
 
 mod comparison;
 mod decide;
+mod reply;
 pub mod outside;
 mod status;
+mod top;
 
 pub use status::Status;
+pub use top::run_alone;
