@@ -90,11 +90,11 @@ mod tests {
     use std::fmt::Write;
     use std::test::Fail;
 
-    fn atom(alloc: Global, signs: Signs) -> Result<Form, OutOfMemory> {
-        Ok(Form::Atom(Atom {
+    fn atom(alloc: Global, signs: Signs) -> Result<Atom, OutOfMemory> {
+        Ok(Atom {
             poly: Poly::constant(alloc, Coef::zero())?,
             signs,
-        }))
+        })
     }
 
     fn pair(alloc: Global, first: Form, second: Form) -> Result<Forms, OutOfMemory> {
@@ -109,8 +109,11 @@ mod tests {
         let minus = atom(alloc, Signs::of(true, false, false))?;
         let plus = atom(alloc, Signs::of(false, false, true))?;
         let exists = Form::Ex(Var(3), Box::new(alloc, Form::True)?);
-        let same = Form::Iff(Box::new(alloc, minus)?, Box::new(alloc, Form::False)?);
-        let either = Form::Or(pair(alloc, plus, Form::True)?);
+        let same = Form::Iff(
+            Box::new(alloc, Form::Atom(minus))?,
+            Box::new(alloc, Form::False)?,
+        );
+        let either = Form::Or(pair(alloc, Form::Atom(plus), Form::True)?);
         let always = Form::All(Var(5), Box::new(alloc, either)?);
         let not_always = Form::Not(Box::new(alloc, always)?);
         let implies = Form::Implies(Box::new(alloc, same)?, Box::new(alloc, not_always)?);
@@ -154,6 +157,13 @@ mod tests {
             spell(form, out)?;
         }
         out.push_str(" end")
+    }
+
+    #[test]
+    fn copies_an_atom(rt: HostRuntime) -> Result<(), Fail> {
+        let copy = atom(rt.alloc(), Signs::of(false, true, true))?.copy(rt.alloc())?;
+        assert_eq!(rt; copy.signs.bits(), 6);
+        Ok(())
     }
 
     #[test]
