@@ -9,5 +9,6 @@ use Rattle.qe_poly.specs.Limits.{sum_limit, IsAnswer}
 use Rattle.qe_poly.proofs.Constants.{constants_subtracted}
 use Rattle.qe_program.specs.Input.{IsLiteral}
 
-pub subtracted : (a b : ℤ) (result : Result Polynomial PolyStop) → IsLiteral a → IsLiteral b → IsAnswer (sum_limit Sub (constant a) (constant b)) (difference (constant a) (constant b)) result → MatchResult result (λ p. p ≡ constant (a -ℤ b)) (λ stop. stop ≡ OutOfMemory)
-subtracted a b result left right answer = constants_subtracted a b result left.0 right.0 left.1 right.1 answer
+pub subtracted : (a b : ℤ) (p q : Polynomial) (result : Result Polynomial PolyStop) → IsLiteral a → IsLiteral b → p ≡ constant a → q ≡ constant b
+    → IsAnswer (sum_limit Sub p q) (difference p q) result → MatchResult result (λ r. r ≡ constant (a -ℤ b)) (λ stop. stop ≡ OutOfMemory)
+subtracted a b p q result a_literal b_literal left right answer = constants_subtracted a b p q result a_literal.0 b_literal.0 a_literal.1 b_literal.1 left right answer

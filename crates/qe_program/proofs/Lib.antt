@@ -3,3 +3,5 @@ pub mod Scanned
 pub mod Compared
 pub mod Differences
 pub mod Decided
+pub mod Replied
+pub mod Caused

@@ -46,6 +46,15 @@ pub record WroteFront (run : Run) : Type 0 where
   pub rest : List ℕ
   pub wrote : AppendsUpTo run.taken run.taken_after text rest
 
+-- where there are no words, the bytes told stand for a formula, and no count of faults rose, the status is Ok, or memory was wanted
+abbrev pub Completes : Run → Status → Type 0
+Completes run answer =
+    run.words ≡ 0
+    → IfSome run.left (λ bytes. (f : Formula) → IsInput bytes f
+        → (Rose run.read_faults run.read_faults_after → ⊥)
+        → (Rose run.write_faults run.write_faults_after → ⊥)
+        → (answer ≡ status.Ok) ⊎ (answer ≡ status.OutOfMemory))
+
 -- each status comes only for its cause, and one that no field names does not come yet
 pub record Causes (run : Run) (answer : Status) : Type 0 where
   -- there are no words, and the input was read to its end
@@ -61,8 +70,4 @@ pub record Causes (run : Run) (answer : Status) : Type 0 where
   -- memory was wanted before anything was written
   pub out_of_memory : answer ≡ status.OutOfMemory → WroteNothing run
   pub no_other : (answer ≢ status.InputTooLong) × (answer ≢ status.TooLarge) × (answer ≢ status.DegreeExcess) × (answer ≢ status.Overflow) × (answer ≢ status.TermLimit) × (answer ≢ status.NodeLimit)
-
--- where there are no words, the bytes told stand for a formula, and no count of faults rose, the status is Ok, or memory was wanted
-abbrev pub Completes : Run → Status → Type 0
-Completes run answer =
-    run.words ≡ 0 → IfSome run.left (λ bytes. (f : Formula) → IsInput bytes f → (Rose run.read_faults run.read_faults_after → ⊥) → (Rose run.write_faults run.write_faults_after → ⊥) → (answer ≡ status.Ok) ⊎ (answer ≡ status.OutOfMemory))
+  pub complete : Completes run answer
