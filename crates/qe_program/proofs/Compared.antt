@@ -208,8 +208,8 @@ is_spelled bytes c e =
     (λ left p e1. option_and_then_some _ (relation_at (behind is_blank left.1)) c e1
     (λ relation q e2. option_and_then_some _ (number_at (behind is_blank relation.1)) c e2
     (λ right r e3.
-        let last = ended_is left.0 relation.0 right.0 (behind is_blank right.1) c e3 in
-        subst (λ d. IsComparison bytes d) last.1 (spelled bytes left relation right p q r last.0))))
+    let last = ended_is left.0 relation.0 right.0 (behind is_blank right.1) c e3 in
+    subst (λ d. IsComparison bytes d) last.1 (spelled bytes left relation right p q r last.0))))
 
 pub none_spelled : (bytes : List ℕ) (o : Option Comparison) → o ≡ comparison_of bytes → IfNone o ((c : Comparison) → IsComparison bytes c → ⊥)
 none_spelled bytes (Some c) e = tt

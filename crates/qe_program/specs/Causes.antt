@@ -51,9 +51,9 @@ abbrev pub Completes : Run → Status → Type 0
 Completes run answer =
     run.words ≡ 0
     → IfSome run.left (λ bytes. (f : Formula) → IsInput bytes f
-        → (Rose run.read_faults run.read_faults_after → ⊥)
-        → (Rose run.write_faults run.write_faults_after → ⊥)
-        → (answer ≡ status.Ok) ⊎ (answer ≡ status.OutOfMemory))
+    → (Rose run.read_faults run.read_faults_after → ⊥)
+    → (Rose run.write_faults run.write_faults_after → ⊥)
+    → (answer ≡ status.Ok) ⊎ (answer ≡ status.OutOfMemory))
 
 -- each status comes only for its cause, and one that no field names does not come yet
 pub record Causes (run : Run) (answer : Status) : Type 0 where

@@ -41,7 +41,7 @@ ended left relation right (b ∷ bs) = None
 abbrev pub comparison_of : List ℕ → Option Comparison
 comparison_of bytes =
     option_and_then (λ left. option_and_then (λ relation. option_and_then (λ right.
-        ended left.0 relation.0 right.0 (behind is_blank right.1))
-        (number_at (behind is_blank relation.1)))
-        (relation_at (behind is_blank left.1)))
-        (number_at (behind is_blank bytes))
+    ended left.0 relation.0 right.0 (behind is_blank right.1))
+    (number_at (behind is_blank relation.1)))
+    (relation_at (behind is_blank left.1)))
+    (number_at (behind is_blank bytes))

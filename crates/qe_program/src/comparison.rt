@@ -126,9 +126,7 @@ fn appended(value: u128, digit: u8) -> Option<u128>
     requires { is_digit digit ≡ true }
     ensures { MatchOption result (2 ^ 128 ≤ 10 * value + (digit - 48)) (λ n. n ≡ 10 * value + (digit - 48)) }
 {
-    value
-        .checked_mul(10)?
-        .checked_add(u128::from(digit - b'0'))
+    value.checked_mul(10)?.checked_add(u128::from(digit - b'0'))
 }
 
 /// The number of the digits; `None` where it is `2^128` or more.

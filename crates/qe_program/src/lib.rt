@@ -4,9 +4,11 @@
 
 mod comparison;
 mod decide;
-mod reply;
 pub mod outside;
+mod reply;
 mod status;
+#[cfg(test)]
+mod tests;
 mod top;
 
 pub use status::Status;
