@@ -22,7 +22,8 @@ pub trait Source {
     /// Gives the next bytes at the front of `out`, and answers how many.
     fn read(&mut self, out: &mut [u8]) -> Result<usize, Failed>
         ensures bound { IfOk result (λ n. n ≤ length out.new) }
-        ensures gives { IfOk result (λ n. Consumes (left self.old) (left self.new) (take n out.new)) }
+        ensures gives { IfOk result
+            (λ n. Consumes (left self.old) (left self.new) (take n out.new)) }
         ensures end { IfOk result (GivesNoneAtEnd (left self.old) (length out.new)) }
         ensures err { OnErr result (left self.new ≡ left self.old) }
         ensures fault { OnErr result (Rose (faults self.old) (faults self.new)) }
