@@ -16,10 +16,11 @@ pub trait Source {
     /// How many faults there were; it never falls.
     ghost faults: { Self → ℕ };
 
-    /// How many reads were made, where the source counts them.
+    /// How many reads were made, where the source counts them, and otherwise 0.
     ghost reads: { Self → ℕ };
 
-    /// Gives the next bytes at the front of `out`, and answers how many.
+    /// Gives the next bytes at the front of `out`, and answers how many: none only at the end, where
+    /// the source tells. `Failed` comes only where the count of faults rose, and then no byte was taken.
     fn read(&mut self, out: &mut [u8]) -> Result<usize, Failed>
         ensures bound { IfOk result (λ n. n ≤ length out.new) }
         ensures gives { IfOk result

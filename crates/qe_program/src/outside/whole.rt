@@ -21,7 +21,7 @@ const PIECE: usize = 4096;
 /// Why a whole read stopped before the end.
 #[derive(Clone, Copy, Debug, PartialEq, Eq)]
 pub enum ReadStop {
-    /// A read failed.
+    /// A read failed, so the source's count of faults rose.
     Fault,
     /// The source gave more than `READ_LIMIT` bytes.
     TooLong,
@@ -45,7 +45,7 @@ impl From<AllocError> for ReadStop {
     }
 }
 
-/// Reads to the end, and answers the bytes.
+/// Reads until a read gives nothing, and answers the bytes, of which there are `READ_LIMIT` at most.
 pub fn read_all<S: Source>(alloc: Global, source: &mut S) -> Result<Vec<u8>, ReadStop>
     ensures whole { IfOk result
         (λ bytes. LosesAll (S.left source.old) (S.left source.new) bytes.items) }
@@ -90,7 +90,8 @@ fn read_piece<S: Source>(source: &mut S, bytes: &mut Vec<u8>) -> Result<usize, R
     Ok(count)
 }
 
-/// Writes all of `bytes`, in order. An empty slice makes no write.
+/// Writes all of `bytes`, in order. An empty slice makes no write. After `Failed`, the sink took some
+/// of the first of them.
 pub fn write_all<K: Sink>(sink: &mut K, bytes: &[u8]) -> Result<(), Failed>
     ensures ok { OnOk result (Appends (K.taken sink.old) (K.taken sink.new) bytes.now) }
     ensures err { OnErr result
