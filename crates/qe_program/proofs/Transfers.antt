@@ -1,15 +1,11 @@
 -- How what a sink took, and what a source has left, changes over several calls.
-use Rattle.std.proofs.Common.{◌≡◌, ◌+◌, ℕ, List, [], ◌++◌, take, drop, refl, sym, ap, ◌∙◌, append_assoc, length, take-append-drop, take_all, arith}
+use Rattle.std.proofs.Common.{◌≡◌, ◌+◌, ℕ, List, ◌++◌, take, drop, sym, ap, ◌∙◌, append_assoc, length, take-append-drop, take_all, arith}
 use Rattle.std.proofs.lemmas.List.{take-append-le, drop-drop}
 use Rattle.std.specs.Io.KnownBytes.{Appends, Consumes}
-use Rattle.std.proofs.KnownBytes.{Appends-nil, Appends-trans, Consumes-trans}
+use Rattle.std.proofs.KnownBytes.{Appends-trans, Consumes-trans}
 use Rattle.std.specs.declared.option.Option.{Option}
 use Rattle.qe_program.specs.Source.{LosesFront}
 use Rattle.qe_program.specs.Sink.{AppendsUpTo}
-
--- nothing was appended yet
-pub AppendsUpTo-refl : (a : Option (List ℕ)) (bytes : List ℕ) → AppendsUpTo a a bytes bytes
-AppendsUpTo-refl a bytes = record { front = []; parts = refl; grown = Appends-nil a }
 
 -- the first n bytes of the rest were appended too
 pub AppendsUpTo-more : (a b c : Option (List ℕ)) (bytes rest : List ℕ) (n : ℕ) → AppendsUpTo a b bytes rest → Appends b c (take n rest)

@@ -2,9 +2,9 @@
 use Rattle.std.specs.Prelude.{ℕ, ◌+◌, ◌-◌, ◌^◌, ◌≤◌, min}
 
 -- one more, but no more than the last value of a count
-abbrev pub raised : ℕ → ℕ
-raised count = min (count + 1) (2 ^ 64 - 1)
+abbrev pub next_count : ℕ → ℕ
+next_count count = min (count + 1) (2 ^ 64 - 1)
 
 -- a count is greater than before, or stands at its last value
 abbrev pub Rose : ℕ → ℕ → Type 0
-Rose before after = raised before ≤ after
+Rose before after = next_count before ≤ after

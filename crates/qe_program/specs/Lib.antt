@@ -2,6 +2,7 @@ pub mod Count
 pub mod Source
 pub mod Sink
 pub mod Memory
+pub mod Standard
 pub mod Scan
 pub mod Comparison
 pub mod Reading

@@ -1,11 +1,11 @@
-//! Where bytes come from and where they go: the two traits, whole reads and writes over them, and their ends.
+//! Where bytes come from and where they go: two traits, whole reads and writes, and the ends.
 //! Knows nothing of formulas, words or statuses.
 
-pub mod memory;
-pub mod sink;
-pub mod source;
-pub mod standard;
-pub mod whole;
+mod memory;
+mod sink;
+mod source;
+mod standard;
+mod whole;
 
 pub use memory::{MemSink, MemSource};
 pub use sink::Sink;

@@ -2,7 +2,7 @@ ghost use Rattle.std.specs.Prelude.{◌≡◌, ◌<◌, ◌≤◌, ◌+◌, ◌^
 ghost use Rattle.std.specs.Io.KnownBytes.{Appends, Consumes};
 ghost use Rattle.qe_program.specs.Count.{Rose};
 ghost use Rattle.qe_program.specs.Source.{GivesNoneAtEnd};
-ghost use Rattle.qe_program.specs.Memory.{is_listed, cut_of, given_count, after_read, after_failed_read, is_refused, taken_count, after_write, after_failed_write};
+ghost use Rattle.qe_program.specs.Memory.{is_listed, cut_of, given_count, supply_after, supply_after_fault, is_refused, taken_count, store_after, store_after_fault};
 
 use super::OutOfMemory;
 use super::sink::Sink;
@@ -10,8 +10,9 @@ use super::source::{Failed, Source};
 use std::alloc::Global;
 use std::marker::Model;
 
-/// A source of bytes in memory. Its reads are numbered from 0: those whose number is in `failing` fail, and read n of
-/// the others gives at most `cuts[n]` bytes, a cut of 0 counting as 1, and past the cuts as many as fit.
+/// A source of bytes in memory. Its reads are numbered from 0: those whose number is in `failing`
+/// fail, and read n of the others gives at most `cuts[n]` bytes, a cut of 0 counting as 1, and past
+/// the cuts as many as fit.
 #[derive(Drop)]
 pub struct MemSource {
     bytes: Vec<u8>,
@@ -37,13 +38,20 @@ impl Model for MemSource {
     } };
 
     // A fault is at a number that is listed, so there are at most 2^32 of them.
-    ghost invariant = { λ s. (s.position ≤ vec_len s.bytes) × (s.faults ≤ s.reads) × (s.faults ≤ 2 ^ 32) };
+    ghost invariant = { λ s.
+        (s.position ≤ vec_len s.bytes) × (s.faults ≤ s.reads) × (s.faults ≤ 2 ^ 32) };
 }
 
 impl MemSource {
     /// A source that gives these bytes, with no read made yet.
     pub fn new(bytes: Vec<u8>, cuts: Vec<u32>, failing: Vec<u32>) -> MemSource
-        ensures { result ≡ record { left = bytes.items; reads = 0; cuts = cuts.items; failing = failing.items; faults = 0 } }
+        ensures { result ≡ record {
+          left = bytes.items;
+          reads = 0;
+          cuts = cuts.items;
+          failing = failing.items;
+          faults = 0;
+        } }
     {
         MemSource {
             bytes,
@@ -65,7 +73,8 @@ impl Source for MemSource {
 
     fn read(&mut self, out: &mut [u8]) -> Result<usize, Failed>
         ensures bound { IfOk result (λ n. n ≤ length out.new) }
-        ensures gives { IfOk result (λ n. Consumes (Some self.old.left) (Some self.new.left) (take n out.new)) }
+        ensures gives { IfOk result
+            (λ n. Consumes (Some self.old.left) (Some self.new.left) (take n out.new)) }
         ensures end { IfOk result (GivesNoneAtEnd (Some self.old.left) (length out.new)) }
         ensures err { OnErr result (self.new.left ≡ self.old.left) }
         ensures fault { OnErr result (Rose self.old.faults self.new.faults) }
@@ -74,8 +83,8 @@ impl Source for MemSource {
         ensures fails { is_err result ≡ is_listed self.old.failing self.old.reads }
         ensures count { IfOk result (λ n. n ≡ given_count self.old (length out.old)) }
         ensures filled { IfOk result (λ n. out.new ≡ take n self.old.left ++ drop n out.old) }
-        ensures after { IfOk result (λ n. self.new ≡ after_read self.old n) }
-        ensures after_fault { OnErr result (self.new ≡ after_failed_read self.old) }
+        ensures after { IfOk result (λ n. self.new ≡ supply_after self.old n) }
+        ensures after_fault { OnErr result (self.new ≡ supply_after_fault self.old) }
     {
         let number = self.reads;
         self.reads = number.saturating_add(1);
@@ -92,9 +101,10 @@ impl Source for MemSource {
     }
 }
 
-/// A sink of bytes in memory, whose writes take no memory. Its writes are numbered from 0: those whose number is in
-/// `failing` fail, and so does a write of a piece that is not empty where its cut is 0 or no room is left. Write n of
-/// the others takes at most `cuts[n]` bytes, and past the cuts as many as fit.
+/// A sink of bytes in memory, whose writes take no memory. Its writes are numbered from 0: those
+/// whose number is in `failing` fail, and so does a write of a piece that is not empty where its
+/// cut is 0 or no room is left. Write n of the others takes at most `cuts[n]` bytes, and past the
+/// cuts as many as fit.
 #[derive(Drop)]
 pub struct MemSink {
     taken: Vec<u8>,
@@ -124,14 +134,21 @@ impl Model for MemSink {
 }
 
 impl MemSink {
-    /// A sink with room for this many bytes, whose memory is taken here, and with no write made yet.
+    /// A sink with room for this many bytes, for which it takes the memory here.
     pub fn new(
         alloc: Global,
         room: u32,
         cuts: Vec<u32>,
         failing: Vec<u32>,
     ) -> Result<MemSink, OutOfMemory>
-        ensures { IfOk result (λ sink. sink ≡ record { taken = []; room = room; writes = 0; cuts = cuts.items; failing = failing.items; faults = 0 }) }
+        ensures { IfOk result (λ sink. sink ≡ record {
+          taken = [];
+          room = room;
+          writes = 0;
+          cuts = cuts.items;
+          failing = failing.items;
+          faults = 0;
+        }) }
     {
         let room = room as usize;
         Ok(MemSink {
@@ -160,14 +177,15 @@ impl Sink for MemSink {
     fn write(&mut self, piece: &[u8]) -> Result<usize, Failed>
         ensures bound { IfOk result (λ n. n ≤ length piece.now) }
         ensures some { IfOk result (λ n. 0 < length piece.now → 0 < n) }
-        ensures takes { IfOk result (λ n. Appends (Some self.old.taken) (Some self.new.taken) (take n piece.now)) }
+        ensures takes { IfOk result
+            (λ n. Appends (Some self.old.taken) (Some self.new.taken) (take n piece.now)) }
         ensures err { OnErr result (self.new.taken ≡ self.old.taken) }
         ensures fault { OnErr result (Rose self.old.faults self.new.faults) }
         ensures faults_kept { self.old.faults ≤ self.new.faults }
         ensures fails { is_err result ≡ is_refused self.old piece.now }
         ensures count { IfOk result (λ n. n ≡ taken_count self.old piece.now) }
-        ensures after { IfOk result (λ n. self.new ≡ after_write self.old piece.now n) }
-        ensures after_fault { OnErr result (self.new ≡ after_failed_write self.old) }
+        ensures after { IfOk result (λ n. self.new ≡ store_after self.old piece.now n) }
+        ensures after_fault { OnErr result (self.new ≡ store_after_fault self.old) }
     {
         let number = self.writes;
         self.writes = number.saturating_add(1);

@@ -13,11 +13,13 @@ pub trait Sink {
     /// How many faults there were; it never falls.
     ghost faults: { Self → ℕ };
 
-    /// Takes some of the first bytes of `piece`, and answers how many.
+    /// Takes some of the first bytes of `piece`, and answers how many: one at least, of a piece that is
+    /// not empty. `Failed` comes only where the count of faults rose, and then nothing was taken.
     fn write(&mut self, piece: &[u8]) -> Result<usize, Failed>
         ensures bound { IfOk result (λ n. n ≤ length piece.now) }
         ensures some { IfOk result (λ n. 0 < length piece.now → 0 < n) }
-        ensures takes { IfOk result (λ n. Appends (taken self.old) (taken self.new) (take n piece.now)) }
+        ensures takes { IfOk result
+            (λ n. Appends (taken self.old) (taken self.new) (take n piece.now)) }
         ensures err { OnErr result (taken self.new ≡ taken self.old) }
         ensures fault { OnErr result (Rose (faults self.old) (faults self.new)) }
         ensures faults_kept { faults self.old ≤ faults self.new };

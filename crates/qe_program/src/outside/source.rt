@@ -16,13 +16,15 @@ pub trait Source {
     /// How many faults there were; it never falls.
     ghost faults: { Self → ℕ };
 
-    /// How many reads were made, where the source counts them.
+    /// How many reads were made, where the source counts them, and otherwise 0.
     ghost reads: { Self → ℕ };
 
-    /// Gives the next bytes at the front of `out`, and answers how many.
+    /// Gives the next bytes at the front of `out`, and answers how many: none only at the end, where
+    /// the source tells. `Failed` comes only where the count of faults rose, and then no byte was taken.
     fn read(&mut self, out: &mut [u8]) -> Result<usize, Failed>
         ensures bound { IfOk result (λ n. n ≤ length out.new) }
-        ensures gives { IfOk result (λ n. Consumes (left self.old) (left self.new) (take n out.new)) }
+        ensures gives { IfOk result
+            (λ n. Consumes (left self.old) (left self.new) (take n out.new)) }
         ensures end { IfOk result (GivesNoneAtEnd (left self.old) (length out.new)) }
         ensures err { OnErr result (left self.new ≡ left self.old) }
         ensures fault { OnErr result (Rose (faults self.old) (faults self.new)) }
