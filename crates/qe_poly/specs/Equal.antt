@@ -1,6 +1,6 @@
 -- Equality of monomials and of polynomials as tests, and what they feed a hasher.
 use Rattle.std.specs.Prelude.{List, [], ◌∷◌, ◌++◌, Bool, true, false, ◌&&◌, ◌≡◌, eqb, refl}
-use Rattle.std.proofs.Common.{ap, arith}
+use Rattle.std.proofs.Common.{ap, sym, subst, T}
 use Rattle.std.proofs.lemmas.Bool.{eqb-true}
 use Rattle.std.proofs.lemmas.Bool.Decides.{Decides-int_eq}
 use Rattle.std.specs.Hash as fed
@@ -38,12 +38,12 @@ poly_eq_equiv = lists_equiv (and_equiv (on_equiv (λ t. t.0) monomial_eq_equiv) 
 
 -- ---- they tell equality
 
+no_way : {A : Type 0} → false ≡ true → A
+no_way holds = absurd (subst T (sym holds) tt)
+
 both : (a b : Bool) → (a && b) ≡ true → (a ≡ true) × (b ≡ true)
 both true b holds = (refl, holds)
-both false b holds = absurd (grind arith)
-
-no_way : {A : Type 0} → false ≡ true → A
-no_way holds = absurd (grind arith)
+both false b holds = no_way holds
 
 -- lists that a test finds equal item by item are equal, where it tells equal items
 pointwise_tells : {X : Type 0} (test : X → X → Bool) → ((x y : X) → test x y ≡ true → x ≡ y) → (xs ys : List X) → pointwise test xs ys ≡ true → xs ≡ ys

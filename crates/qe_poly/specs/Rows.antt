@@ -21,7 +21,7 @@ Row = Monomial × (ℤ × ℤ)
 
 -- a row as clauses see it
 abbrev pub shown_row : kept_row.Row → Row
-shown_row r = (r.monomial, (r.left, r.right))
+shown_row row = (row.monomial, (row.left, row.right))
 
 -- the rows of a left term with right terms; `rest` are those of the later left terms
 abbrev pub merge_in : Term → (Polynomial → List Row) → Polynomial → List Row
@@ -36,11 +36,11 @@ merged (t ∷ ts) q = merge_in t (merged ts) q
 
 -- the results that are not zero
 abbrev pub kept_results : Op → List Row → Polynomial
-kept_results op rs = nonzero (map (λ r. (r.0, exact op (r.1).0 (r.1).1)) rs)
+kept_results op rows = nonzero (map (λ row. (row.0, exact op (row.1).0 (row.1).1)) rows)
 
 -- the limit of the first row whose result leaves the range
 abbrev pub row_limit : Op → List Row → Option PolyLimit
-row_limit op rs = first_limit (λ r. wide op (r.1).0 (r.1).1) rs
+row_limit op rows = first_limit (λ row. wide op (row.1).0 (row.1).1) rows
 
 -- the limit of two merged polynomials
 abbrev pub merged_limit : Op → Polynomial → Polynomial → Option PolyLimit

@@ -9,11 +9,11 @@ pub const MOST_MONOMIALS: usize = 4096;
 /// A limit that an operation met.
 #[derive(Clone, Copy, Debug, PartialEq, Eq)]
 pub enum PolyLimit {
-    /// A coefficient would be out of range.
+    /// A coefficient would be out of range: the operation, and its two numbers.
     Coefficient(Wide),
     /// An exponent would be over 65,535.
     Exponent,
-    /// More than 4,096 monomials would meet.
+    /// More than 4,096 monomials would meet, those counted whose coefficients cancel.
     Monomials,
 }
 

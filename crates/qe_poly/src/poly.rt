@@ -15,7 +15,8 @@ use std::alloc::{AllocError, Global};
 use std::hash::{Hash, Hasher};
 use std::marker::Model;
 
-/// A polynomial: terms from the greatest monomial to the least, without zeros, so that equal polynomials have equal terms.
+/// A polynomial, as the list of its terms from the greatest monomial to the least, with no coefficient 0.
+/// So polynomials are equal where their terms are.
 #[derive(Drop)]
 pub struct Poly {
     terms: Vec<Term>,
@@ -61,7 +62,9 @@ impl Poly {
         }
         Ok(Poly { terms })
     }
-    /// The sum. More than 4,096 monomials in the two are a limit, and else the greatest monomial whose sum is out of range, with its two coefficients.
+
+    /// The sum. The limit is `Monomials` where the two have more than 4,096 different monomials, and else `Coefficient`
+    /// at the greatest monomial whose sum is out of range, with the two coefficients there.
     pub fn add(&self, alloc: Global, other: &Poly) -> Result<Poly, PolyStop>
         ensures { IsAnswer (sum_limit Op.Add self.now other.now) (spec.sum self.now other.now) result }
     {
@@ -69,7 +72,7 @@ impl Poly {
         Ok(Poly { terms })
     }
 
-    /// The difference, with the limits of `add`.
+    /// The difference; its limits are those of `add`, at the differences.
     pub fn sub(&self, alloc: Global, other: &Poly) -> Result<Poly, PolyStop>
         ensures { IsAnswer (sum_limit Op.Sub self.now other.now) (spec.difference self.now other.now) result }
     {

@@ -20,6 +20,7 @@ struct Row {
     right: Coef,
 }
 
+/// One more row, with a copy of the monomial.
 fn push_row(
     rows: &mut Vec<Row>,
     alloc: Global,
@@ -27,7 +28,8 @@ fn push_row(
     left: Coef,
     right: Coef,
 ) -> Result<(), AllocError>
-    ensures { IfOk result (λ _. map shown_row rows.new.items ≡ map shown_row rows.old.items ++ (monomial.now, (left, right)) ∷ []) }
+    ensures { IfOk result (λ _. map shown_row rows.new.items ≡
+        map shown_row rows.old.items ++ (monomial.now, (left, right)) ∷ []) }
 {
     rows.push(Row {
         monomial: monomial.copy(alloc)?,
@@ -39,7 +41,8 @@ fn push_row(
 
 /// Rows of terms that the left polynomial alone has.
 fn push_left(rows: &mut Vec<Row>, alloc: Global, terms: &[Term]) -> Result<(), AllocError>
-    ensures { IfOk result (λ _. map shown_row rows.new.items ≡ map shown_row rows.old.items ++ merged (map shown terms.now) []) }
+    ensures { IfOk result (λ _. map shown_row rows.new.items ≡
+        map shown_row rows.old.items ++ merged (map shown terms.now) []) }
 {
     let zero = Coef::zero();
     for term in terms {
@@ -50,7 +53,8 @@ fn push_left(rows: &mut Vec<Row>, alloc: Global, terms: &[Term]) -> Result<(), A
 
 /// Rows of terms that the right polynomial alone has.
 fn push_right(rows: &mut Vec<Row>, alloc: Global, terms: &[Term]) -> Result<(), AllocError>
-    ensures { IfOk result (λ _. map shown_row rows.new.items ≡ map shown_row rows.old.items ++ merged [] (map shown terms.now)) }
+    ensures { IfOk result (λ _. map shown_row rows.new.items ≡
+        map shown_row rows.old.items ++ merged [] (map shown terms.now)) }
 {
     let zero = Coef::zero();
     for term in terms {
@@ -91,6 +95,7 @@ fn merge(alloc: Global, left: &[Term], right: &[Term]) -> Result<Vec<Row>, Alloc
     Ok(rows)
 }
 
+/// The operation on two coefficients.
 fn apply(op: Op, left: Coef, right: Coef) -> Result<Coef, Wide>
     ensures { IsExact op left right result }
 {
@@ -103,9 +108,10 @@ fn apply(op: Op, left: Coef, right: Coef) -> Result<Coef, Wide>
 
 /// The results of the operation on each row, without zeros, or the first that is too wide.
 fn results(alloc: Global, rows: &[Row], op: Op) -> Result<Vec<Term>, PolyStop>
-    ensures { MatchResult result
-        (λ v. (row_limit op (map shown_row rows.now) ≡ None) × (map shown v.items ≡ kept_results op (map shown_row rows.now)))
-        (IsStop (row_limit op (map shown_row rows.now))) }
+    ensures { let limit = row_limit op (map shown_row rows.now) in
+        MatchResult result
+        (λ v. (limit ≡ None) × (map shown v.items ≡ kept_results op (map shown_row rows.now)))
+        (IsStop limit) }
 {
     let mut terms = Vec::new(alloc);
     for row in rows {
@@ -126,7 +132,9 @@ fn results(alloc: Global, rows: &[Row], op: Op) -> Result<Vec<Term>, PolyStop>
 
 /// The sum of ordered terms, or the difference; `op` is `Add` or `Sub`.
 pub fn combine(alloc: Global, left: &[Term], right: &[Term], op: Op) -> Result<Vec<Term>, PolyStop>
-    ensures { let p = map shown left.now in let q = map shown right.now in MatchResult result
+    ensures { let p = map shown left.now in
+        let q = map shown right.now in
+        MatchResult result
         (λ v. (merged_limit op p q ≡ None) × (map shown v.items ≡ kept_results op (merged p q)))
         (IsStop (merged_limit op p q)) }
 {

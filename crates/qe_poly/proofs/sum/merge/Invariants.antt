@@ -4,11 +4,11 @@ use Rattle.qe_poly.proofs.Merging.{from, so_far}
 use Rattle.qe_poly.proofs.sum.merge.Given as goal
 
 abbrev pub invariant-loop-i : goal.invariant-loop-i
-invariant-loop-i l = record {
-  left_in : l.i ≤ length l.left;
-  right_in : l.j ≤ length l.right;
-  rows : so_far l.rows.items (from l.left l.i) (from l.right l.j) ≡ merged (map shown l.left) (map shown l.right);
+invariant-loop-i state = record {
+  left_in : state.i ≤ length state.left;
+  right_in : state.j ≤ length state.right;
+  rows : so_far state.rows.items (from state.left state.i) (from state.right state.j) ≡ merged (map shown state.left) (map shown state.right);
 }
 
 abbrev pub decreases-loop-i : goal.decreases-loop-i
-decreases-loop-i l = (length l.left + length l.right) - (l.i + l.j)
+decreases-loop-i state = (length state.left + length state.right) - (state.i + state.j)

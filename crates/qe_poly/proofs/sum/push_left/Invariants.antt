@@ -3,4 +3,4 @@ use Rattle.qe_poly.specs.Rows.{shown, shown_row, merged}
 use Rattle.qe_poly.proofs.sum.push_left.Given as goal
 
 abbrev pub invariant-loop-term : goal.invariant-loop-term
-invariant-loop-term l = map shown_row l.rows.items ++ merged (map shown (drop l.term-index l.terms)) [] ≡ map shown_row l.initial.rows.items ++ merged (map shown l.terms) []
+invariant-loop-term state = map shown_row state.rows.items ++ merged (map shown (drop state.term-index state.terms)) [] ≡ map shown_row state.initial.rows.items ++ merged (map shown state.terms) []

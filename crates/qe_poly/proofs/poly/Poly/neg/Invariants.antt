@@ -4,4 +4,4 @@ use Rattle.qe_poly.specs.Rows.{shown}
 use Rattle.qe_poly.proofs.poly.Poly.neg.Given as goal
 
 abbrev pub invariant-loop-term : goal.invariant-loop-term
-invariant-loop-term l = map shown l.terms.items ++ negative (map shown (drop l.term-index l.term-items)) ≡ negative (map shown l.term-items)
+invariant-loop-term state = map shown state.terms.items ++ negative (map shown (drop state.term-index state.term-items)) ≡ negative (map shown state.term-items)

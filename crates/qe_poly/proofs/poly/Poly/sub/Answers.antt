@@ -15,7 +15,7 @@ pub invariant_of-result : goal.invariant_of-result
 invariant_of-result c = subst (λ p. IsPolynomial p) (sym c.in_ok-terms.ensures.1) (facts (goal.at.invariant_of-result c).After-combine).is_polynomial
 
 pub returns : goal.returns
-returns c = let f = facts (goal.at.returns c).After-combine in (sym f.limit_is ∙ c.in_ok-terms.ensures.0, c.in_ok-terms.ensures.1 ∙ f.result_is)
+returns c = let merging = facts (goal.at.returns c).After-combine in (sym merging.limit_is ∙ c.in_ok-terms.ensures.0, c.in_ok-terms.ensures.1 ∙ merging.result_is)
 
 pub returns-in_err-terms : goal.returns-in_err-terms
 returns-in_err-terms c = handed_on (sum_limit Sub c.args.self.now c.args.other.now) (difference c.args.self.now c.args.other.now) c.from_residual.result c.in_err-terms.field-0.0 c.from_residual.ensures.0 c.from_residual.ensures.1
