@@ -1,19 +1,17 @@
 -- Each outcome of the top call is caused.
-use Rattle.std.proofs.Common.{ℕ, ◌≡◌, ◌≢◌, ◌<◌, ◌∙◌, sym, subst, inl, inr, List, [], length, Option, Some, None, Result, Ok, Err, arith}
+use Rattle.std.proofs.Common.{ℕ, ◌≡◌, ◌∙◌, subst, inl, inr, List, [], Option, Some, None, Result, Ok, Err, arith}
 use Rattle.std.specs.Prelude.{IfSome, IfOk}
 use Rattle.std.specs.declared.alloc.AllocError.{AllocError}
-use Rattle.std.specs.Io.KnownBytes.{Appends}
-use Rattle.qe_form.specs.Formula.{Formula}
 use Rattle.qe_program.specs.declared.reply.Reply.{Reply}
 use Rattle.qe_program.specs.declared.status.Status.{Status}
 use Rattle.qe_program.specs.declared.status.Status.TheVariants as status
 use Rattle.qe_program.specs.Count.{Rose}
 use Rattle.qe_program.specs.Source.{LosesAll, HasMoreThan}
 use Rattle.qe_program.specs.Sink.{AppendsUpTo}
-use Rattle.qe_program.specs.Input.{IsInput, IsNotBuilt}
-use Rattle.qe_program.specs.Output.{usage_line, not_built_line}
+use Rattle.qe_program.specs.Input.{IsNotBuilt}
+use Rattle.qe_program.specs.Output.{not_built_line}
 use Rattle.qe_program.specs.Headline.{Headline}
-use Rattle.qe_program.specs.Causes.{Run, Wrote, WroteNothing, IsReply, IsOutput, WroteFront, Completes, Causes}
+use Rattle.qe_program.specs.Causes.{Run, Wrote, WroteNothing, IsOutput, WroteFront, Causes}
 use Rattle.qe_program.specs.Reply.{Replies, Delivers}
 use Rattle.qe_program.proofs.Replied.{too_long}
 
@@ -27,7 +25,7 @@ always_told None Q f = tt
 always_told (Some bytes) Q f = f bytes
 
 module _ (run : Run) (answer : Status) where
-  pub by_ok : answer ≡ status.Ok → run.words ≡ 0 → IfSome run.left (λ _. run.left_after ≡ Some []) → Causes run answer
+  by_ok : answer ≡ status.Ok → run.words ≡ 0 → IfSome run.left (λ _. run.left_after ≡ Some []) → Causes run answer
   by_ok is no_words ended = record {
     ok = λ e. (no_words, ended);
     usage = λ e. absurd (cc);
@@ -39,7 +37,7 @@ module _ (run : Run) (answer : Status) where
     complete = λ e. always_told run.left _ (λ bytes f i r w. inl is);
   }
 
-  pub by_memory : answer ≡ status.OutOfMemory → WroteNothing run → Causes run answer
+  by_memory : answer ≡ status.OutOfMemory → WroteNothing run → Causes run answer
   by_memory is nothing = record {
     ok = λ e. absurd (cc);
     usage = λ e. absurd (cc);
@@ -51,31 +49,7 @@ module _ (run : Run) (answer : Status) where
     complete = λ e. always_told run.left _ (λ bytes f i r w. inr is);
   }
 
-  pub by_usage : answer ≡ status.Usage → run.words ≢ 0 → Wrote run usage_line → Causes run answer
-  by_usage is words wrote = record {
-    ok = λ e. absurd (cc);
-    usage = λ e. (words, wrote);
-    read_fault = λ e. absurd (cc);
-    bad_input = λ e. absurd (cc);
-    write_fault = λ e. absurd (cc);
-    out_of_memory = λ e. absurd (cc);
-    no_other = ((λ e. cc), (λ e. cc), (λ e. cc), (λ e. cc), (λ e. cc), (λ e. cc));
-    complete = λ e. absurd (words e);
-  }
-
-  pub by_read_fault : answer ≡ status.ReadFault → run.words ≡ 0 → Rose run.read_faults run.read_faults_after → WroteNothing run → Causes run answer
-  by_read_fault is no_words rose nothing = record {
-    ok = λ e. absurd (cc);
-    usage = λ e. absurd (cc);
-    read_fault = λ e. (no_words, rose, nothing);
-    bad_input = λ e. absurd (cc);
-    write_fault = λ e. absurd (cc);
-    out_of_memory = λ e. absurd (cc);
-    no_other = ((λ e. cc), (λ e. cc), (λ e. cc), (λ e. cc), (λ e. cc), (λ e. cc));
-    complete = λ e. always_told run.left _ (λ bytes f i r w. absurd (r rose));
-  }
-
-  pub by_bad_input : answer ≡ status.BadInput → run.words ≡ 0 → IfSome run.left IsNotBuilt → Wrote run not_built_line → Causes run answer
+  by_bad_input : answer ≡ status.BadInput → run.words ≡ 0 → IfSome run.left IsNotBuilt → Wrote run not_built_line → Causes run answer
   by_bad_input is no_words bad wrote = record {
     ok = λ e. absurd (cc);
     usage = λ e. absurd (cc);
@@ -87,7 +61,7 @@ module _ (run : Run) (answer : Status) where
     complete = λ e. where_told run.left IsNotBuilt _ (λ bytes not_built f i r w. absurd (not_built f i)) bad;
   }
 
-  pub by_write_fault : answer ≡ status.WriteFault → Rose run.write_faults run.write_faults_after → WroteFront run → Causes run answer
+  by_write_fault : answer ≡ status.WriteFault → Rose run.write_faults run.write_faults_after → WroteFront run → Causes run answer
   by_write_fault is rose front = record {
     ok = λ e. absurd (cc);
     usage = λ e. absurd (cc);
@@ -131,13 +105,4 @@ refused_unread run (Ok reply) answer no_words many is d =
     elim d [
       | inl whole ↦ by_bad_input run answer (whole.0 ∙ is.0) no_words bad (subst (λ text. Wrote run text) is.1 whole.1)
       | inr cut ↦ cut_off run answer reply.text.items (inr (no_words, where_told run.left _ _ (λ told n. inr (n, is.1)) bad)) cut
-    ]
-
--- the reply to words that give no job
-pub misused : (run : Run) (reply : Result Reply AllocError) (answer : Status) → run.words ≢ 0 → IfOk reply (λ r. (r.status ≡ status.Usage) × (r.text.items ≡ usage_line)) → Delivered run reply answer → Causes run answer
-misused run (Err e) answer words is d = by_memory run answer d.0 d.1
-misused run (Ok reply) answer words is d =
-    elim d [
-      | inl whole ↦ by_usage run answer (whole.0 ∙ is.0) words (subst (λ text. Wrote run text) is.1 whole.1)
-      | inr cut ↦ cut_off run answer reply.text.items (inl (words, is.1)) cut
     ]

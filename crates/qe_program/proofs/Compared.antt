@@ -2,11 +2,11 @@
 use Rattle.std.proofs.Common.{ℕ, ◌-◌, ◌^◌, ◌<◌, ◌≡◌, ◌≢◌, ◌∙◌, sym, ap, subst, refl, Bool, true, false, ◌||◌, ℤ, pos, List, [], ◌∷◌, ◌++◌, Some, None, Option, arith}
 use Rattle.std.proofs.lemmas.Bool.{and_parts, eqb-true}
 use Rattle.std.proofs.lemmas.Bool.Decides.{nat_tests}
-use Rattle.std.proofs.lemmas.Option.{option_and_then_some, some_pair_parts}
+use Rattle.std.proofs.lemmas.Option.{option_and_then_some}
 use Rattle.std.specs.Prelude.{IsTrue, if◌then◌else◌, nat_lt, ◌==◌, IfNone}
 use Rattle.std.specs.List.{list_all}
 use Rattle.qe_program.specs.Scan.{front, behind}
-use Rattle.qe_program.specs.Comparison.{is_blank, is_digit, number_of, relation_text, IsNumeral, AreBlanks, IsComparison}
+use Rattle.qe_program.specs.Comparison.{is_blank, is_digit, number_of, relation_text, IsNumeral, IsComparison}
 use Rattle.qe_program.specs.Reading.{is_empty, fitting, number_at, less_at, greater_at, relation_at, ended, comparison_of}
 use Rattle.qe_program.specs.declared.comparison.Comparison.{Comparison}
 use Rattle.qe_program.specs.declared.comparison.Relation.{Relation}

@@ -1,13 +1,12 @@
 -- What is refused, and what a reply to bytes says of them.
-use Rattle.std.proofs.Common.{ℕ, ◌≡◌, ◌<◌, ◌^◌, inl, inr, List, length, Result, Ok, Err, arith}
+use Rattle.std.proofs.Common.{ℕ, ◌≡◌, ◌<◌, inr, List, length, Result, Ok, Err, arith}
 use Rattle.std.specs.Prelude.{IfOk}
 use Rattle.std.specs.declared.alloc.AllocError.{AllocError}
-use Rattle.qe_form.specs.Formula.{Formula}
 use Rattle.qe_program.specs.declared.comparison.Comparison.{Comparison}
 use Rattle.qe_program.specs.declared.reply.Reply.{Reply}
 use Rattle.qe_program.specs.declared.status.Status.TheVariants as status
 use Rattle.qe_program.specs.Comparison.{IsComparison}
-use Rattle.qe_program.specs.Input.{IsInput, IsNotBuilt}
+use Rattle.qe_program.specs.Input.{IsNotBuilt}
 use Rattle.qe_program.specs.Output.{not_built_line}
 use Rattle.qe_program.specs.Reply.{Replies}
 

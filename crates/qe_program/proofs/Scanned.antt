@@ -1,10 +1,9 @@
 -- Fronts of lists that pass a test, and digits whose number is wide.
-use Rattle.std.proofs.Common.{ℕ, ◌+◌, ◌-◌, ◌*◌, ◌^◌, ◌<◌, ◌≤◌, ◌≡◌, Bool, true, false, List, [], ◌∷◌, ◌++◌, length, get_or, drop, refl, ap, arith, zero, suc}
+use Rattle.std.proofs.Common.{ℕ, ◌+◌, ◌-◌, ◌*◌, ◌<◌, ◌≤◌, ◌≡◌, Bool, true, false, List, [], ◌∷◌, ◌++◌, length, get_or, drop, refl, ap, arith, zero, suc}
 use Rattle.std.proofs.lemmas.Bool.{and_parts}
 use Rattle.std.specs.Prelude.{fold, IsTrue, if◌then◌else◌}
 use Rattle.std.specs.List.{list_all}
 use Rattle.qe_program.specs.Scan.{front, behind}
-use Rattle.qe_program.specs.Comparison.{number_of}
 
 module _ {X : Type 0} (p : X → Bool) where
   all_step : (x : X) (xs : List X) → IsTrue (list_all p xs) → (b : Bool) → p x ≡ b → IsTrue (list_all p (if b then x ∷ xs else []))
