@@ -9,7 +9,7 @@ use super::sink::Sink;
 use super::source::{Failed, Source};
 use std::alloc::{AllocError, Global};
 
-/// The most bytes that `read_all` takes.
+/// The most bytes that `read_all` answers.
 pub const READ_LIMIT: usize = 1_048_576;
 
 /// Each turn but the last takes a byte at least, so these turns suffice.
