@@ -3,10 +3,10 @@ use Rattle.std.proofs.Common.{ℕ, Bool, true, false, not, ◌≡◌, ◌⊎◌,
 use Rattle.std.proofs.lemmas.Bool.Decides.{eqb_tells}
 use Rattle.qe_tower.specs.Number.{Number, IsNumber}
 use Rattle.qe_tower.specs.Point.{Point, IsPoint, look_up}
-use Rattle.qe_form.specs.Formula.{Formula, Formulas, And, Or, Not, Implies, Iff, Ex, All, no_more, more}
+use Rattle.qe_form.specs.Formula.{Formula, Formulas, And, Or, Implies, Iff, Ex, All, no_more, more}
 use Rattle.qe_form.specs.Truth.{Is, EachIs, SomeIs}
-use Rattle.qe_form.specs.Same.{IsFree, IsFreeInSome, HasNoQuantifier, Gives, Agree, Same, SameEach}
-use Rattle.qe_form.specs.Laws.{BothOrNeither, SameIsPreorder, SameIsKept, SameIsLiteral}
+use Rattle.qe_form.specs.Same.{IsFree, IsFreeInSome, Gives, Agree, Same, SameEach}
+use Rattle.qe_form.specs.Laws.{SameIsPreorder, SameIsKept, SameIsLiteral}
 use Rattle.qe_form.proofs.TwoSides.{decided}
 
 -- ---- what two pairs of equivalences give
