@@ -1,3 +1,5 @@
+//! Sources and sinks in memory, whose every read and write is stated: for tests, and for callers that hold the bytes.
+
 ghost use Rattle.std.specs.Prelude.{◌≡◌, ◌<◌, ◌≤◌, ◌+◌, ◌^◌, ◌++◌, [], length, take, drop, is_err, IsTrue, IfOk, OnErr, Some};
 ghost use Rattle.std.specs.Io.KnownBytes.{Appends, Consumes};
 ghost use Rattle.qe_program.specs.Count.{Rose};
