@@ -2,6 +2,9 @@
 //! Knows nothing of what is read or written.
 #![tactic(auto)]
 
+ghost use Rattle.std.specs.Prelude.{◌≡◌, ◌∷◌, [], map, IfOk};
+ghost use Rattle.std.specs.String.{string_bytes};
+
 use qe_program::outside::{OutOfMemory, StdSink, StdSource};
 use qe_program::{Status, run_alone};
 use std::alloc::Global;
@@ -21,7 +24,9 @@ fn words<R: Env + AllocGlobal>(rt: &R) -> Result<Vec<String>, OutOfMemory> {
 }
 
 /// One empty word.
-fn no_text(alloc: Global) -> Result<Vec<String>, OutOfMemory> {
+fn no_text(alloc: Global) -> Result<Vec<String>, OutOfMemory>
+    ensures { IfOk result (λ words. map string_bytes words.items ≡ [] ∷ []) }
+{
     let mut words = Vec::new(alloc);
     words.push(String::new(alloc))?;
     Ok(words)
