@@ -1,0 +1,4 @@
+pub mod Cases
+pub mod Adjoin
+pub mod Fractions
+pub mod Towers
