@@ -7,3 +7,4 @@ pub mod Keeping
 pub mod Joined
 pub mod Readings
 pub mod ValidNumbers
+pub mod Stated
