@@ -9,7 +9,6 @@ use Rattle.qe_ring.proofs.Finite.{is-eq, is-same, swapped, by_zero}
 use Rattle.qe_ring.proofs.Signs.{signs, same_sign, law, double, pick_at, sign-zero}
 use Rattle.qe_tower.specs.Element.{pair_operations}
 use Rattle.qe_tower.specs.Sign.{sign_of_root_sum, pair_sign}
-use Rattle.qe_tower.specs.Number.{add, mul, neg}
 use Rattle.qe_tower.proofs.Cases.{table_holds, product_holds, shift_holds, reduce_holds, flat_holds, table_zero, negated}
 
 -- the norm a*a - b*b*r of a pair

@@ -1,5 +1,5 @@
 -- What the proofs on pairs a + b*sqrt(r) ask of finitely many signs, by computing all cases. N(a, b) stands for a*a - b*b*r.
-use Rattle.std.proofs.Common.{◌≡◌, T, List, [], ◌∷◌, refl}
+use Rattle.std.proofs.Common.{◌≡◌, List, [], ◌∷◌, refl}
 use Rattle.qe_ring.specs.Sign.{Sign, Minus, Zero, Plus, is_not_minus, is_not_zero, is, opposite, ◌·◌, adds, pick}
 use Rattle.qe_ring.proofs.Finite.{Step, any, given, Claim, Holds, decide, is-eq}
 use Rattle.qe_tower.specs.Sign.{sign_of_root_sum}
@@ -147,4 +147,3 @@ Negated r a b m = is (pick m (opposite a) (opposite b · r)) (opposite (pick m a
 
 pub negated : (r a b m : Sign) → pick m (opposite a) (opposite b · r) ≡ opposite (pick m a (b · r))
 negated r a b m = is-eq (pick m (opposite a) (opposite b · r)) (opposite (pick m a (b · r))) (decide (any ∷ any ∷ any ∷ any ∷ []) Negated tt r a b m)
-

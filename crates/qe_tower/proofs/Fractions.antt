@@ -1,5 +1,5 @@
 -- The fractions over an ordered ring are an ordered ring.
-use Rattle.std.proofs.Common.{◌≡◌, ℤ, pos, T, List, [], ◌∷◌, refl, subst}
+use Rattle.std.proofs.Common.{◌≡◌, ℤ, pos, List, [], ◌∷◌, refl}
 use Rattle.qe_ring.specs.Ring.{Operations, IsRing}
 use Rattle.qe_ring.specs.Sign.{Sign, Zero, Plus, int_sign, is, opposite, ◌·◌, adds}
 use Rattle.qe_ring.specs.Ordered.{IsOrdered, EqualBySign, int_operations}

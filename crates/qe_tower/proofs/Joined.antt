@@ -1,5 +1,5 @@
 -- Maps between towers: there is one at most; lifting and carrying are such maps, and two of them come together over the joined tower.
-use Rattle.std.proofs.Common.{◌≡◌, ℕ, zero, suc, ℤ, pos, negsuc, T, List, [], ◌∷◌, refl, sym, ap, subst, ◌∙◌, add-one}
+use Rattle.std.proofs.Common.{◌≡◌, ℕ, zero, suc, ℤ, pos, negsuc, List, [], ◌∷◌, refl, sym, ap, subst, ◌∙◌, add-one}
 use Rattle.qe_ring.specs.Ring.{Operations, IsRing}
 use Rattle.qe_ring.specs.Sign.{IsNotMinus, int_sign}
 use Rattle.qe_ring.specs.Ordered.{EqualBySign, int_operations}

@@ -1,5 +1,5 @@
 -- Maps between ordered rings that keep operations and signs.
-use Rattle.std.proofs.Common.{◌≡◌, T, List, [], ◌∷◌, refl, sym, ap, ap₂, ◌∙◌}
+use Rattle.std.proofs.Common.{◌≡◌, List, [], ◌∷◌, refl, sym, ap, ap₂, ◌∙◌}
 use Rattle.qe_ring.specs.Ring.{Operations, difference, IsRing}
 use Rattle.qe_ring.specs.Sign.{Sign, IsNotMinus, ◌·◌, pick}
 use Rattle.qe_ring.specs.Ordered.{IsOrdered, EqualBySign}
@@ -9,7 +9,7 @@ use Rattle.qe_ring.proofs.Signs.{same_sign, pick_at, sign-zero}
 use Rattle.qe_ring.proofs.Equal.{by_ring, equal_ring, equal_sign}
 use Rattle.qe_ring.proofs.Roots.{root_has_sign}
 use Rattle.qe_tower.specs.Element.{pair_operations}
-use Rattle.qe_tower.specs.Sign.{pair_sign, sign}
+use Rattle.qe_tower.specs.Sign.{pair_sign}
 use Rattle.qe_tower.specs.Map.{Keeps}
 use Rattle.qe_tower.proofs.Adjoin.{norm, is_pick, of_base}
 use Rattle.qe_tower.proofs.Field.{parts_equal}

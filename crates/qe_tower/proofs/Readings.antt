@@ -1,5 +1,5 @@
 -- What numbers are over a common tower: sums, products and negatives are those of the elements there.
-use Rattle.std.proofs.Common.{ℤ, pos, negsuc, ◌≡◌, ℕ, zero, suc, pos, T, List, [], ◌∷◌, refl, sym, ap₂, subst, ◌∙◌}
+use Rattle.std.proofs.Common.{pos, ◌≡◌, ℕ, pos, [], ◌∷◌, refl, sym, ◌∙◌}
 use Rattle.qe_ring.specs.Expression.{var, nought, unit, ◌⊕◌, ◌⊝◌, ⊖◌, ◌⊗◌}
 use Rattle.qe_ring.proofs.Hypotheses.{fact}
 use Rattle.qe_ring.proofs.Signs.{same_sign}
@@ -150,4 +150,3 @@ common x y z t hx hy hz ht = record {
 
     h₃ : IsTower t₃
     h₃ = (joined t₂ h₂ z.tower hz).0
-

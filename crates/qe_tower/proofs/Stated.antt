@@ -1,9 +1,9 @@
 -- The laws in the form in which the contracts state them.
-use Rattle.std.proofs.Common.{◌≡◌, ℕ, refl}
+use Rattle.std.proofs.Common.{ℕ, refl}
 use Rattle.qe_ring.specs.Ring.{IsRing}
 use Rattle.qe_ring.specs.Ordered.{IsOrderedOn}
 use Rattle.qe_ring.proofs.Equal.{equal_ring}
-use Rattle.qe_ring.proofs.Order.{sum_in_words, transitive, total, antisymmetric, kept_by_sum, kept_by_product}
+use Rattle.qe_ring.proofs.Order.{sum_in_words, transitive, total, antisymmetric, kept_by_sum, kept_by_product, less_or_equal, less_at_most, equal_at_most}
 use Rattle.qe_tower.specs.Element.{Element, Tower, operations}
 use Rattle.qe_tower.specs.Sign.{sign, IsTower, EqualOver}
 use Rattle.qe_tower.specs.Number.{IsNumber, add, mul, sign_of, number_operations, Equal}
@@ -55,6 +55,9 @@ numbers_ordered = record {
 
 order_over : {n : ℕ} (t : Tower n) → IsTower t → IsOrderOver t
 order_over {n} t h = record {
+  at-most = less_or_equal (operations t) (sign t) (Alike n) (ordered t h);
+  less = less_at_most (operations t) (sign t) (Alike n) (ordered t h);
+  equal = equal_at_most (operations t) (sign t) (Alike n) (ordered t h);
   transitive = transitive (operations t) (sign t) (Alike n) (ordered t h);
   total = total (operations t) (sign t) (Alike n) (ordered t h);
   antisymmetric = antisymmetric (operations t) (sign t) (Alike n) (ordered t h);
@@ -64,6 +67,9 @@ order_over {n} t h = record {
 
 order_of_numbers : IsOrderOfNumbers
 order_of_numbers = record {
+  at-most = λ x y p q. less_or_equal valid_operations valid_sign ValidEqual valid_ordered (x, p) (y, q);
+  less = λ x y p q. less_at_most valid_operations valid_sign ValidEqual valid_ordered (x, p) (y, q);
+  equal = λ x y p q. equal_at_most valid_operations valid_sign ValidEqual valid_ordered (x, p) (y, q);
   transitive = λ x y z p q k. transitive valid_operations valid_sign ValidEqual valid_ordered (x, p) (y, q) (z, k);
   total = λ x y p q. total valid_operations valid_sign ValidEqual valid_ordered (x, p) (y, q);
   antisymmetric = λ x y p q. antisymmetric valid_operations valid_sign ValidEqual valid_ordered (x, p) (y, q);

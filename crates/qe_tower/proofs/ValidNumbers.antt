@@ -153,6 +153,7 @@ valid_ordered = record {
   sign-mul = λ x y. product_sign x y y y;
   sign-add = λ x y. sum_signs x y y y;
 }
+
 -- every number that is not zero has an inverse over the same tower
 pub inverse_of : (x : Number) → IsNumber x → IsNotZero (sign_of x) → InverseOf x
 inverse_of x h hx = record {
