@@ -33,7 +33,8 @@ module _ {C : Type 0} (o : Operations C) (E : C → C → Type 0) (R : IsRing o 
       (pulled point gs h.1))
       (solve o E R (value o point c ∷ value o point r ∷ []) (x₀ ⊗ (x₁ ⊝ x₁) ⊕ nought) nought refl)
 
-  pub solve_by : (point : List C) (gs : List Given) (a b : Expression) → All_given point gs → normal (a ⊝ (b ⊕ pull gs)) ≡ [] → E (value o point a) (value o point b)
+  pub solve_by : (point : List C) (gs : List Given) (a b : Expression) → All_given point gs → normal (a ⊝ (b ⊕ pull gs)) ≡ []
+      → E (value o point a) (value o point b)
   solve_by point gs a b h e =
       R.then (value o point a) (value o point (b ⊕ pull gs)) (value o point b) (solve o E R point a (b ⊕ pull gs) e)
       (R.then (value o point (b ⊕ pull gs)) (o.add (value o point b) o.zero) (value o point b)

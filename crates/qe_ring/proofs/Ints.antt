@@ -17,10 +17,12 @@ mul_assoc_z a b c = same_in ((a *ℤ b) *ℤ c) (a *ℤ (b *ℤ c)) (simp (up-mu
 
 mul-add_z : (a b c : ℤ) → a *ℤ (b +ℤ c) ≡ a *ℤ b +ℤ a *ℤ c
 mul-add_z a b c = same_in (a *ℤ (b +ℤ c)) (a *ℤ b +ℤ a *ℤ c)
-    (simp (up-mul, down-mul) (parts (up a) (down a) (up b) (down b) (up c) (down c) (up (b +ℤ c)) (down (b +ℤ c)) (up (a *ℤ b)) (down (a *ℤ b)) (up (a *ℤ c)) (down (a *ℤ c)) (up (a *ℤ b +ℤ a *ℤ c)) (down (a *ℤ b +ℤ a *ℤ c))
+    (simp (up-mul, down-mul) (parts (up a) (down a) (up b) (down b) (up c) (down c) (up (b +ℤ c)) (down (b +ℤ c)) (up (a *ℤ b)) (down (a *ℤ b))
+    (up (a *ℤ c)) (down (a *ℤ c)) (up (a *ℤ b +ℤ a *ℤ c)) (down (a *ℤ b +ℤ a *ℤ c))
     (sum_is_lem b c) (up-mul a b) (down-mul a b) (up-mul a c) (down-mul a c) (sum_is_lem (a *ℤ b) (a *ℤ c))))
   where
-    parts : (ua da ub db uc dc us ds ux dx uy dy ut dt : ℕ) → us + db + dc ≡ ds + ub + uc → ux ≡ ua * ub + da * db → dx ≡ ua * db + da * ub → uy ≡ ua * uc + da * dc → dy ≡ ua * dc + da * uc
+    parts : (ua da ub db uc dc us ds ux dx uy dy ut dt : ℕ) → us + db + dc ≡ ds + ub + uc → ux ≡ ua * ub + da * db → dx ≡ ua * db + da * ub → uy
+        ≡ ua * uc + da * dc → dy ≡ ua * dc + da * uc
         → ut + dx + dy ≡ dt + ux + uy → (ua * us + da * ds) + dt ≡ ut + (ua * ds + da * us)
     parts ua da ub db uc dc us ds ux dx uy dy ut dt e h₁ h₂ h₃ h₄ h₅ = omega (arith, ap (λ z. ua * z) e, ap (λ z. da * z) e)
 

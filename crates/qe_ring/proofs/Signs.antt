@@ -51,7 +51,8 @@ module _ {C : Type 0} (o : Operations C) (s : C → Sign) (E : C → C → Type 
   law point a b c h =
       subst (λ u. T (adds (signs o s point a) (signs o s point b) u)) (same_sign point (a ⊕ b) c h)
       (subst (λ u. T (adds (signs o s point a) u (s (add (value o point a) (value o point b))))) (signs_are point b)
-      (subst (λ u. T (adds u (s (value o point b)) (s (add (value o point a) (value o point b))))) (signs_are point a) (sign-add (value o point a) (value o point b))))
+      (subst (λ u. T (adds u (s (value o point b)) (s (add (value o point a) (value o point b))))) (signs_are point a)
+      (sign-add (value o point a) (value o point b))))
 
   pub double : (a : C) → s (add a a) ≡ s a
   double a = is-eq (s (add a a)) (s a) (decide (any ∷ any ∷ given ∷ []) Twice tt (s a) (s (add a a)) (sign-add a a))
@@ -71,5 +72,6 @@ module _ {C : Type 0} (o : Operations C) (s : C → Sign) (E : C → C → Type 
       y = var 1
 
   -- the same, at expressions
-  pub pick_at : (point : List C) (u v : Expression) → s (add (value o point u) (value o point v)) ≡ pick (signs o s point (u ⊗ u ⊝ v ⊗ v)) (signs o s point u) (signs o s point v)
+  pub pick_at : (point : List C) (u v : Expression) → s (add (value o point u) (value o point v))
+      ≡ pick (signs o s point (u ⊗ u ⊝ v ⊗ v)) (signs o s point u) (signs o s point v)
   pick_at point u v = pick_is (value o point u) (value o point v) ∙ ap₂ (pick (signs o s point (u ⊗ u ⊝ v ⊗ v))) (signs_are point u) (signs_are point v)

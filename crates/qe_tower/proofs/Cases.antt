@@ -88,7 +88,8 @@ reduce_holds = decide Reduce Reduce_claim tt
 -- both norms zero: r a b m, c d n, t = sign (b*b - d*d), e = sign (N(x) - N(y)), q = sign (a*a - c*c), g = sign (N(x) + N(y)),
 -- z = sign ((ac)^2 - (bdr)^2), j = twice sign (ac - bdr), h = sign N(x + y)
 abbrev pub Flat : List Step
-Flat = any ∷ given ∷ any ∷ any ∷ any ∷ given ∷ given ∷ any ∷ any ∷ any ∷ given ∷ given ∷ any ∷ given ∷ any ∷ given ∷ any ∷ given ∷ given ∷ any ∷ given ∷ any ∷ given ∷ any ∷ given ∷ any ∷ given ∷ []
+Flat = any ∷ given ∷ any ∷ any ∷ any ∷ given ∷ given ∷ any ∷ any ∷ any ∷ given ∷ given ∷ any ∷ given ∷ any ∷ given ∷ any ∷ given ∷ given ∷ any ∷ given
+    ∷ any ∷ given ∷ any ∷ given ∷ any ∷ given ∷ []
 
 abbrev pub Flat_claim : Claim Flat
 Flat_claim r = (

@@ -56,7 +56,8 @@ module _ (x y z t : ValidNumber) where
 
   reads-nat : (n : ℕ) → Reads W (of_nat valid_operations n).0 (of_nat (operations W) n)
   reads-nat zero = reads-zero W M.fine
-  reads-nat (suc n) = reads-add W M.fine (of_nat valid_operations n).0 valid_operations.one.0 (of_nat (operations W) n) (operations W).one (of_nat valid_operations n).1 tt (reads-nat n) (reads-one W M.fine)
+  reads-nat (suc n) = reads-add W M.fine (of_nat valid_operations n).0 valid_operations.one.0 (of_nat (operations W) n) (operations W).one
+      (of_nat valid_operations n).1 tt (reads-nat n) (reads-one W M.fine)
 
   reads-int : (z : ℤ) → Reads W (of_int valid_operations z).0 (of_int (operations W) z)
   reads-int (pos n) = reads-nat n
@@ -67,18 +68,25 @@ module _ (x y z t : ValidNumber) where
   reads-value nought = reads-zero W M.fine
   reads-value unit = reads-one W M.fine
   reads-value (constant z) = reads-int z
-  reads-value (e ⊕ f) = reads-add W M.fine (value valid_operations numbers e).0 (value valid_operations numbers f).0 (value (operations W) elements e) (value (operations W) elements f) (value valid_operations numbers e).1 (value valid_operations numbers f).1 (reads-value e) (reads-value f)
+  reads-value (e ⊕ f) = reads-add W M.fine (value valid_operations numbers e).0 (value valid_operations numbers f).0 (value (operations W) elements e)
+      (value (operations W) elements f) (value valid_operations numbers e).1 (value valid_operations numbers f).1 (reads-value e) (reads-value f)
   reads-value (⊖ e) = reads-neg W M.fine (value valid_operations numbers e).0 (value (operations W) elements e) (reads-value e)
-  reads-value (e ⊗ f) = reads-mul W M.fine (value valid_operations numbers e).0 (value valid_operations numbers f).0 (value (operations W) elements e) (value (operations W) elements f) (value valid_operations numbers e).1 (value valid_operations numbers f).1 (reads-value e) (reads-value f)
+  reads-value (e ⊗ f) = reads-mul W M.fine (value valid_operations numbers e).0 (value valid_operations numbers f).0 (value (operations W) elements e)
+      (value (operations W) elements f) (value valid_operations numbers e).1 (value valid_operations numbers f).1 (reads-value e) (reads-value f)
 
   -- numbers are equal where the ring laws say so
   law_by : (e f : Expression) → normal (e ⊝ f) ≡ [] → ValidEqual (value valid_operations numbers e) (value valid_operations numbers f)
-  law_by e f h = reads-equal W M.fine (value valid_operations numbers e).0 (value valid_operations numbers f).0 (value (operations W) elements e) (value (operations W) elements f) (value valid_operations numbers e).1 (value valid_operations numbers f).1 (reads-value e) (reads-value f)
+  law_by e f h = reads-equal W M.fine (value valid_operations numbers e).0 (value valid_operations numbers f).0 (value (operations W) elements e)
+      (value (operations W) elements f) (value valid_operations numbers e).1 (value valid_operations numbers f).1 (reads-value e) (reads-value f)
       (by_ring (operations W) (sign W) (Alike M.height) (ordered W M.fine) elements e f h)
 
   -- and where that follows from two equations between them
-  law_from : (e f : Expression) → EqualOver W M.a M.b × EqualOver W M.c M.d → (p q : Expression) → normal (e ⊝ (f ⊕ pull (fact p (var 0) (var 1) ∷ fact q (var 2) (var 3) ∷ []))) ≡ [] → ValidEqual (value valid_operations numbers e) (value valid_operations numbers f)
-  law_from e f k p q h = reads-equal W M.fine (value valid_operations numbers e).0 (value valid_operations numbers f).0 (value (operations W) elements e) (value (operations W) elements f) (value valid_operations numbers e).1 (value valid_operations numbers f).1 (reads-value e) (reads-value f)
+  law_from : (e f : Expression) → EqualOver W M.a M.b × EqualOver W M.c M.d → (p q : Expression)
+      → normal (e ⊝ (f ⊕ pull (fact p (var 0) (var 1) ∷ fact q (var 2) (var 3) ∷ []))) ≡ []
+      → ValidEqual (value valid_operations numbers e) (value valid_operations numbers f)
+  law_from e f k p q h = reads-equal W M.fine (value valid_operations numbers e).0 (value valid_operations numbers f).0
+      (value (operations W) elements e) (value (operations W) elements f) (value valid_operations numbers e).1 (value valid_operations numbers f).1
+      (reads-value e) (reads-value f)
       (by_hyp W M.fine elements (fact p (var 0) (var 1) ∷ fact q (var 2) (var 3) ∷ []) e f (k.0, (k.1, tt)) h)
 
   both_equal : ValidEqual x y → ValidEqual z t → EqualOver W M.a M.b × EqualOver W M.c M.d
@@ -87,7 +95,8 @@ module _ (x y z t : ValidNumber) where
   sum_signs : T (adds (valid_sign x) (valid_sign y) (valid_sign (valid_operations.add x y)))
   sum_signs = subst (λ s. T (adds s (valid_sign y) (valid_sign (valid_operations.add x y)))) (reads-sign W M.fine x.0 M.a M.x_is)
       (subst (λ s. T (adds (sign W M.a) s (valid_sign (valid_operations.add x y)))) (reads-sign W M.fine y.0 M.b M.y_is)
-      (subst (λ s. T (adds (sign W M.a) (sign W M.b) s)) (reads-sign W M.fine (add x.0 y.0) ((operations W).add M.a M.b) (reads-add W M.fine x.0 y.0 M.a M.b x.1 y.1 M.x_is M.y_is))
+      (subst (λ s. T (adds (sign W M.a) (sign W M.b) s))
+      (reads-sign W M.fine (add x.0 y.0) ((operations W).add M.a M.b) (reads-add W M.fine x.0 y.0 M.a M.b x.1 y.1 M.x_is M.y_is))
       ((ordered W M.fine).sign-add M.a M.b)))
 
   product_sign : valid_sign (valid_operations.mul x y) ≡ valid_sign x · valid_sign y
@@ -95,7 +104,8 @@ module _ (x y z t : ValidNumber) where
       ∙ (ordered W M.fine).sign-mul M.a M.b ∙ ap₂ ◌·◌ (reads-sign W M.fine x.0 M.a M.x_is) (reads-sign W M.fine y.0 M.b M.y_is)
 
   equal_signs : ValidEqual x y → valid_sign x ≡ valid_sign y
-  equal_signs e = sym (reads-sign W M.fine x.0 M.a M.x_is) ∙ sign_eq W M.fine M.a M.b (equal-reads W M.fine x.0 y.0 M.a M.b x.1 y.1 M.x_is M.y_is e) ∙ reads-sign W M.fine y.0 M.b M.y_is
+  equal_signs e = sym (reads-sign W M.fine x.0 M.a M.x_is) ∙ sign_eq W M.fine M.a M.b (equal-reads W M.fine x.0 y.0 M.a M.b x.1 y.1 M.x_is M.y_is e)
+      ∙ reads-sign W M.fine y.0 M.b M.y_is
 
 abbrev x₀ : Expression
 x₀ = var 0

@@ -7,7 +7,6 @@ use Rattle.qe_ring.specs.Expression.{Expression, var, nought, unit, ◌⊕◌, �
 use Rattle.qe_ring.proofs.Signs.{signs, same_sign}
 use Rattle.qe_ring.proofs.Ints.{int_ordered}
 use Rattle.qe_tower.specs.Fraction.{whole, fraction_operations, fraction_sign}
-use Rattle.qe_tower.specs.Sign.{sign}
 use Rattle.qe_tower.specs.Number.{add, mul, neg, whole_number, Equal}
 use Rattle.qe_tower.specs.Map.{Keeps}
 use Rattle.qe_tower.proofs.ValidNumbers.{ValidNumber, valid_operations, ValidEqual, valid_ordered}
@@ -43,9 +42,11 @@ R = valid_ordered.ring
 
 natural_is_constant : (n : ℕ) → ValidEqual (whole_valid (pos n)) (of_nat valid_operations n)
 natural_is_constant zero = refl
-natural_is_constant (suc n) = R.then (whole_valid (pos (suc n))) (valid_operations.add (whole_valid (pos n)) valid_operations.one) (of_nat valid_operations (suc n))
+natural_is_constant (suc n) = R.then (whole_valid (pos (suc n))) (valid_operations.add (whole_valid (pos n)) valid_operations.one)
+    (of_nat valid_operations (suc n))
     (subst (λ z. Equal (whole_number z) (add (whole_number (pos n)) (whole_number (pos 1)))) (ap pos (add-one n)) (whole_sum (pos n) (pos 1)))
-    (R.add-same (whole_valid (pos n)) (of_nat valid_operations n) valid_operations.one valid_operations.one (natural_is_constant n) (R.same valid_operations.one))
+    (R.add-same (whole_valid (pos n)) (of_nat valid_operations n) valid_operations.one valid_operations.one (natural_is_constant n)
+    (R.same valid_operations.one))
 
 -- a whole number is what the solver's constants stand for among the numbers
 pub whole_is_constant : (z : ℤ) → ValidEqual (whole_valid z) (of_int valid_operations z)
