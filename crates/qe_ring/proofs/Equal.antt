@@ -30,6 +30,7 @@ module _ {C : Type 0} (o : Operations C) (s : C → Sign) (E : C → C → Type 
   open o use {zero, one, add, neg, mul}
   open L use {ring, sign-same, sign-one, sign-neg, sign-mul, sign-add}
 
+  -- what is equal up to E is equal by the sign of the difference
   pub weaken : (a b : C) → E a b → EqualBySign o s a b
   weaken a b h = sign-same (difference o a b) zero
       (ring.then (difference o a b) (difference o b b) zero (ring.add-same a b (neg b) (neg b) h (ring.same (neg b))) (ring.add-neg b))
@@ -44,9 +45,11 @@ module _ {C : Type 0} (o : Operations C) (s : C → Sign) (E : C → C → Type 
       sg : Expression → Sign
       sg t = signs o s point t
 
+  -- the solver, for this equality
   pub by_ring : (point : List C) (a b : Expression) → normal (a ⊝ b) ≡ [] → EqualBySign o s (value o point a) (value o point b)
   by_ring point a b h = weaken (value o point a) (value o point b) (solve o E ring point a b h)
 
+  -- the ring up to this equality
   pub equal_ring : IsRing o (EqualBySign o s)
   equal_ring = record {
     same = λ a. by_ring (a ∷ []) x₀ x₀ refl;
@@ -65,9 +68,11 @@ module _ {C : Type 0} (o : Operations C) (s : C → Sign) (E : C → C → Type 
     mul-add = λ a b c. by_ring (a ∷ b ∷ c ∷ []) (x₀ ⊗ (x₁ ⊕ x₂)) (x₀ ⊗ x₁ ⊕ x₀ ⊗ x₂) refl;
   }
 
+  -- what is equal has one sign
   pub equal_sign : (a b : C) → EqualBySign o s a b → s a ≡ s b
   equal_sign a b h = is-eq (s a) (s b) (decide (any ∷ given ∷ any ∷ any ∷ given ∷ []) Left tt (s (difference o a b))
       (to_is (s (difference o a b)) Zero h) (s b) (s a) (law o s E L (a ∷ b ∷ []) (x₀ ⊝ x₁) x₁ x₀ refl))
 
+  -- and the ordered ring
   pub equal_ordered : IsOrdered o s (EqualBySign o s)
   equal_ordered = record { ring = equal_ring; sign-same = equal_sign; sign-one = sign-one; sign-neg = sign-neg; sign-mul = sign-mul; sign-add = sign-add }

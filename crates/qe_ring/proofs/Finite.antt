@@ -49,6 +49,7 @@ decide (any ∷ k) p = λ h. elim [
 ]
 decide (given ∷ k) p = λ h t. decide k (p.1 tt) (passed p.0 (every k (p.1 tt)) h t)
 
+-- from the test of two signs to their equation, and back
 pub is-eq : (s t : Sign) → T (is s t) → s ≡ t
 is-eq Minus Minus h = refl
 is-eq Minus Zero h = absurd h

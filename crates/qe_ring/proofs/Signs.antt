@@ -30,9 +30,11 @@ module _ {C : Type 0} (o : Operations C) (s : C → Sign) (E : C → C → Type 
   open o use {zero, one, add, neg, mul}
   open L use {ring, sign-same, sign-one, sign-neg, sign-mul, sign-add}
 
+  -- the sign of zero
   pub sign-zero : s zero ≡ Zero
   sign-zero = self_opp (s zero) (sign-same zero (neg zero) (solve o E ring [] nought (⊖ nought) refl) ∙ sign-neg zero)
 
+  -- the sign of a value is what `signs` reads off its expression
   pub signs_are : (point : List C) (e : Expression) → s (value o point e) ≡ signs o s point e
   signs_are point (var x) = refl
   signs_are point nought = sign-zero
@@ -54,6 +56,7 @@ module _ {C : Type 0} (o : Operations C) (s : C → Sign) (E : C → C → Type 
       (subst (λ u. T (adds u (s (value o point b)) (s (add (value o point a) (value o point b))))) (signs_are point a)
       (sign-add (value o point a) (value o point b))))
 
+  -- a + a has the sign of a
   pub double : (a : C) → s (add a a) ≡ s a
   double a = is-eq (s (add a a)) (s a) (decide (any ∷ any ∷ given ∷ []) Twice tt (s a) (s (add a a)) (sign-add a a))
 

@@ -138,6 +138,7 @@ module _ {C : Type 0} (o : Operations C) (E : C → C → Type 0) (R : IsRing o 
   of_int-by z m n h = of_int-parts z ▸ cross (of_nat o (up z)) (of_nat o (down z)) (of_nat o m) (of_nat o n) (rev (of_nat-add (up z) n)
       ▸ same_of_eq (ap (of_nat o) h) ▸ of_nat-add m (down z))
 
+  -- they keep sums, products and negatives
   pub of_int-add : (a b : ℤ) → E (of_int o (a +ℤ b)) (add (of_int o a) (of_int o b))
   of_int-add a b = of_int-by (a +ℤ b) (up a + up b) (down a + down b) (omega (arith, sum_is_lem a b))
       ▸ add₂ (of_nat-add (up a) (up b)) (neg₁ (of_nat-add (down a) (down b)) ▸ neg-add (of_nat o (down a)) (of_nat o (down b)))
@@ -260,5 +261,6 @@ module _ {C : Type 0} (o : Operations C) (E : C → C → Type 0) (R : IsRing o 
   unfolding total
   vanishes point e h = rev (normal-is point e) ▸ same_of_eq (ap (total point) h)
 
+  -- an identity of rings: where the difference has the empty normal form, by `refl`, the two sides have one value
   pub solve : (point : List C) (a b : Expression) → normal (a ⊝ b) ≡ [] → E (value o point a) (value o point b)
   solve point a b h = add_cancel (value o point a) (value o point b) (neg (value o point b)) (vanishes point (a ⊝ b) h ▸ rev (add-neg (value o point b)))

@@ -64,6 +64,7 @@ module _ {C : Type 0} (o : Operations C) (s : C → Sign) (E : C → C → Type 
   abbrev by : (point : List C) (a b : Expression) → normal (a ⊝ b) ≡ [] → E (value o (r ∷ point) a) (value o (r ∷ point) b)
   by point a b h = solve o E ring (r ∷ point) a b h
 
+  -- the pairs are a ring, part by part
   pair_ring : IsRing (pair_operations o r) (EqualParts E)
   pair_ring = record {
     same = λ x. (same x.0, same x.1);
@@ -105,21 +106,26 @@ module _ {C : Type 0} (o : Operations C) (s : C → Sign) (E : C → C → Type 
   open L use {ring, sign-same, sign-one, sign-neg, sign-mul, sign-add}
   open ring use {same, back, then, add-same, neg-same, mul-same}
 
+  -- the sign of a pair
   abbrev ps : C × C → Sign
   ps x = pair_sign o s r x
 
+  -- the product and the sum of two pairs
   abbrev pm : C × C → C × C → C × C
   pm x y = (pair_operations o r).mul x y
 
   abbrev pa : C × C → C × C → C × C
   pa x y = (add x.0 y.0, add x.1 y.1)
 
+  -- the sign of a pair's norm
   abbrev nx : C × C → Sign
   nx x = s (norm o r x.0 x.1)
 
+  -- the sign of a norm is one that a*a and -(b*b*r) allow
   pub norm_law : (x : C × C) → T (adds (s x.0 · s x.0) (opposite (s x.1 · s x.1 · s r)) (nx x))
   norm_law x = law o s E L (r ∷ x.0 ∷ x.1 ∷ []) (a₀ ⊗ a₀) (⊖ (b₀ ⊗ b₀ ⊗ r₀)) (N a₀ b₀) refl
 
+  -- the sign of a pair, picked by its norm; from here on the rows of its definition are not used
   pub is_pick : (x : C × C) → ps x ≡ pick (nx x) (s x.0) (s x.1 · s r)
   is_pick x =
       ap (sign_of_root_sum (s x.0) (s x.1) (s r) (nx x)) (same_sign o s E L (r ∷ x.0 ∷ x.1 ∷ []) (b₀ ⊗ b₀ ⊗ r₀ ⊝ a₀ ⊗ a₀) (⊖ N a₀ b₀) refl)
@@ -129,6 +135,7 @@ module _ {C : Type 0} (o : Operations C) (s : C → Sign) (E : C → C → Type 
   pick₃ : {a a' b b' c c' : Sign} → a ≡ a' → b ≡ b' → c ≡ c' → pick a b c ≡ pick a' b' c'
   pick₃ {a} {a'} {b} {b'} {c} {c'} p q t = ap (λ z. pick z b c) p ∙ ap₂ (pick a') q t
 
+  -- pairs that are equal part by part have one sign
   pub pair_sign-same : (x y : C × C) → EqualParts E x y → ps x ≡ ps y
   pair_sign-same x y e = is_pick x ∙ pick₃ (sign-same (norm o r x.0 x.1) (norm o r y.0 y.1) norms) (sign-same x.0 y.0 e.0) (ap (λ z. z · s r)
       (sign-same x.1 y.1 e.1)) ∙ sym (is_pick y)
@@ -137,12 +144,14 @@ module _ {C : Type 0} (o : Operations C) (s : C → Sign) (E : C → C → Type 
       norms = add-same (mul x.0 x.0) (mul y.0 y.0) (neg (mul (mul x.1 x.1) r)) (neg (mul (mul y.1 y.1) r)) (mul-same x.0 y.0 x.0 y.0 e.0 e.0)
           (neg-same (mul (mul x.1 x.1) r) (mul (mul y.1 y.1) r) (mul-same (mul x.1 x.1) (mul y.1 y.1) r r (mul-same x.1 y.1 x.1 y.1 e.1 e.1) (same r)))
 
+  -- the sign of a negative
   pair_sign-neg : (x : C × C) → ps (neg x.0, neg x.1) ≡ opposite (ps x)
   pair_sign-neg x = is_pick (neg x.0, neg x.1)
       ∙ pick₃ (same_sign o s E L (r ∷ x.0 ∷ x.1 ∷ []) (N (⊖ a₀) (⊖ b₀)) (N a₀ b₀) refl) (sign-neg x.0) (ap (λ z. z · s r) (sign-neg x.1))
       ∙ negated (s r) (s x.0) (s x.1) (nx x)
       ∙ ap opposite (sym (is_pick x))
 
+  -- (k, 0) has the sign of k
   pub of_base : (k : C) → ps (k, zero) ≡ s k
   of_base k = ap (λ z. sign_of_root_sum (s k) z (s r) (nx (k, zero)) (s (difference o (mul (mul zero zero) r) (mul k k)))) (sign-zero o s E L)
       ∙ table_zero (s k) (s r) (nx (k, zero)) (s (difference o (mul (mul zero zero) r) (mul k k)))
@@ -153,6 +162,7 @@ module _ {C : Type 0} (o : Operations C) (s : C → Sign) (E : C → C → Type 
   abbrev V : Expression
   V = (a₀ ⊗ d₀) ⊗ (a₀ ⊗ d₀) ⊝ (b₀ ⊗ c₀) ⊗ (b₀ ⊗ c₀)
 
+  -- the sign of a product of pairs
   pair_sign-mul : (x y : C × C) → ps (pm x y) ≡ ps x · ps y
   pair_sign-mul x y =
       is_pick (pm x y)
@@ -278,6 +288,7 @@ module _ {C : Type 0} (o : Operations C) (s : C → Sign) (E : C → C → Type 
       sum_is : ps (pa x y) ≡ pick (nx (pa x y)) (pick (signs o s point Q₀) (s x.0) (s y.0)) (pick (signs o s point T₀) (s x.1) (s y.1) · s r)
       sum_is = is_pick (pa x y) ∙ pick₃ refl (pick_at o s E L point a₀ c₀) (ap (λ t. t · s r) (pick_at o s E L point b₀ d₀))
 
+  -- the sign of a sum of pairs
   pair_sign-add : (x y : C × C) → T (adds (ps x) (ps y) (ps (pa x y)))
   pair_sign-add x y = by_zero (nx x) (λ hx. by_zero (nx y) (λ hy. flat x y hx hy) other) (steep x y)
     where
@@ -285,6 +296,7 @@ module _ {C : Type 0} (o : Operations C) (s : C → Sign) (E : C → C → Type 
       other hy = swapped (ps y) (ps x) (ps (pa x y))
           (subst (λ t. T (adds (ps y) (ps x) t)) (pair_sign-same (pa y x) (pa x y) (ring.add-comm y.0 x.0, ring.add-comm y.1 x.1)) (steep y x hy))
 
+  -- the pairs are an ordered ring
   pub adjoined : IsOrdered (pair_operations o r) (pair_sign o s r) (EqualParts E)
   adjoined = record {
     ring = pair_ring o s E L r;

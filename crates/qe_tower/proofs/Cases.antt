@@ -137,6 +137,7 @@ Flat_claim r = (
 pub flat_holds : Holds Flat Flat_claim
 flat_holds = decide Flat Flat_claim tt
 
+-- a pair whose second part has the sign zero
 pub table_zero : (a r m n : Sign) → sign_of_root_sum a Zero r m n ≡ a
 table_zero Minus r m n = refl
 table_zero Zero r m n = refl

@@ -110,6 +110,7 @@ module _ {C : Type 0} (o : Operations C) (s : C → Sign) (E : C → C → Type 
           (norm_law o s E L r h x) hn
           (subst (λ t. IsNotZero t) (is_pick o s E L r h x) hx) (s n.0))
 
+  -- where the base has inverses, the pairs have them
   pub inverts : Inverts o s → Inverts po ps
   inverts inv x hx = by_zero (s (norm o r x.0 x.1))
       (λ hn. by_double x hn hx (inv (add x.0 x.0) (not_zero_sum x hn hx)))
@@ -121,6 +122,7 @@ module _ {C : Type 0} (o : Operations C) (s : C → Sign) (E : C → C → Type 
       (by_ring o s E L (r ∷ []) (nought ⊗ nought ⊕ unit ⊗ unit ⊗ r₀) r₀ refl)
       (by_ring o s E L (r ∷ []) (nought ⊗ unit ⊕ unit ⊗ nought) nought refl)
 
+  -- (0, 1) is not minus
   pub root_sign : IsNotMinus (ps (zero, one))
   root_sign = subst (λ t. IsNotMinus
       (sign_of_root_sum t (s one) (s r) (s (norm o r zero one)) (s (difference o (mul (mul one one) r) (mul zero zero))))) (sym (sign-zero o s E L))
@@ -132,6 +134,7 @@ module _ {C : Type 0} (o : Operations C) (s : C → Sign) (E : C → C → Type 
       by_radicand Zero b c = tt
       by_radicand Plus b c = tt
 
+-- the inverse of p/q is q/p
 fraction_inverts : Inverts fraction_operations fraction_sign
 fraction_inverts x hx = go x.numerator x.denominator x.positive hx
   where

@@ -6,7 +6,7 @@ use Rattle.qe_ring.specs.Ordered.{IsOrdered, EqualBySign, int_operations}
 use Rattle.qe_ring.specs.Expression.{Expression, var, nought, unit, ◌⊕◌, ◌⊝◌, ⊖◌, ◌⊗◌, normal}
 use Rattle.qe_ring.proofs.Finite.{Step, any, given, Claim, Holds, decide, is-eq, to_is}
 use Rattle.qe_ring.proofs.Signs.{signs, same_sign, law}
-use Rattle.qe_ring.proofs.Ints.{int_ordered, above}
+use Rattle.qe_ring.proofs.Ints.{int_ordered, plus_of_positive}
 use Rattle.qe_tower.specs.Fraction.{Fraction, fraction_operations, fraction_sign}
 
 abbrev p₀ : Expression
@@ -79,17 +79,20 @@ abbrev F : Type 0
 F = Fraction
 
 plus_den : (x : F) → s (pos x.denominator) ≡ Plus
-plus_den x = above x.denominator x.positive
+plus_den x = plus_of_positive x.denominator x.positive
 
 zeros : (point : List ℤ) (e : Expression) → normal (e ⊝ nought) ≡ [] → signs o s point e ≡ Zero
 zeros point e h = same_sign o s E L point e nought h
 
+-- the numerator of p/q - p'/q'
 abbrev D : Expression → Expression → Expression → Expression → Expression
 D p q p' q' = p ⊗ q' ⊕ ⊖ p' ⊗ q
 
+-- the numerators and denominators of four fractions, for the variables p₀ q₀ to p₃ q₃
 env : F → F → F → F → List ℤ
 env x y z w = x.numerator ∷ pos x.denominator ∷ y.numerator ∷ pos y.denominator ∷ z.numerator ∷ pos z.denominator ∷ w.numerator ∷ pos w.denominator ∷ []
 
+-- a numerator that two zeros give after a positive factor is zero
 combine : (point : List ℤ) (u v d a b w : Expression) → signs o s point u ≡ Zero → signs o s point v ≡ Zero → signs o s point d ≡ Plus
     → normal (a ⊗ u ⊕ b ⊗ v ⊝ d ⊗ w) ≡ [] → signs o s point w ≡ Zero
 combine point u v d a b w hu hv hd e = is-eq (sg w) Zero (mixed (sg u) (to_is (sg u) Zero hu) (sg v) (to_is (sg v) Zero hv) (sg d)
@@ -98,6 +101,7 @@ combine point u v d a b w hu hv hd e = is-eq (sg w) Zero (mixed (sg u) (to_is (s
     sg : Expression → Sign
     sg t = signs o s point t
 
+-- the fractions are a ring up to the sign of the difference
 fraction_ring : IsRing fraction_operations (EqualBySign fraction_operations fraction_sign)
 unfolding env
 fraction_ring = record {
@@ -121,6 +125,7 @@ fraction_ring = record {
       (q₀ ⊗ q₁ ⊗ (q₀ ⊗ q₂))) refl;
 }
 
+-- and an ordered one
 pub fraction_ordered : IsOrdered fraction_operations fraction_sign (EqualBySign fraction_operations fraction_sign)
 unfolding env
 fraction_ordered = record {

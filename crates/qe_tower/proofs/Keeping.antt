@@ -19,6 +19,7 @@ module _ {C D : Type 0} (o : Operations C) (s : C → Sign) (o' : Operations D) 
   abbrev R' : IsRing o' (EqualBySign o' s')
   R' = equal_ring o' s' E' L'
 
+  -- such a map keeps differences and equality
   pub keeps-difference : (a b : C) → EqualBySign o' s' (f (difference o a b)) (difference o' (f a) (f b))
   keeps-difference a b = R'.then (f (difference o a b)) (o'.add (f a) (f (o.neg b))) (difference o' (f a) (f b)) (K.add a (o.neg b))
       (R'.add-same (f a) (f a) (f (o.neg b)) (o'.neg (f b)) (R'.same (f a)) (K.neg b))
@@ -50,6 +51,7 @@ composed p q o s o' s' E' L' g f G K = record {
 module _ {C : Type 0} (o : Operations C) (s : C → Sign) (E : C → C → Type 0) (L : IsOrdered o s E) (r : C) (h : IsNotMinus (s r)) where
   open o use {zero, one, add, neg, mul}
 
+  -- raising a value a to the pair (a, 0) is such a map
   pub lifts : Keeps o s (pair_operations o r) (pair_sign o s r) (λ a. (a, zero))
   lifts = record {
     sign = of_base o s E L r h;
@@ -69,6 +71,7 @@ module _ {C : Type 0} (o : Operations C) (s : C → Sign) (E : C → C → Type 
 module _ {C D : Type 0} (o : Operations C) (s : C → Sign) (E : C → C → Type 0) (L : IsOrdered o s E) (r : C) (h : IsNotMinus (s r))
     (o' : Operations D) (s' : D → Sign) (E' : D → D → Type 0) (L' : IsOrdered o' s' E') (f : C → D) (K : Keeps o s o' s' f) (w : D)
     (hw : IsNotMinus (s' w)) (e : EqualBySign o' s' (o'.mul w w) (f r)) where
+  -- (a, b) goes to f a + f b * w
   abbrev pub onto : C × C → D
   onto x = o'.add (f x.0) (o'.mul (f x.1) w)
 
@@ -104,6 +107,7 @@ module _ {C D : Type 0} (o : Operations C) (s : C → Sign) (E : C → C → Typ
   root-sign : s' w ≡ s r
   root-sign = root_has_sign o' s' E' L' w (f r) hw (equal_sign o' s' E' L' (o'.mul w w) (f r) e) ∙ K.sign r
 
+  -- this is such a map
   pub onto_keeps : Keeps (pair_operations o r) (pair_sign o s r) o' s' onto
   onto_keeps = record {
     sign = λ x. pick_at o' s' E' L' (f x.0 ∷ f x.1 ∷ w ∷ []) (var 0) (var 1 ⊗ var 2)

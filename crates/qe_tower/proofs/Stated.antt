@@ -13,6 +13,7 @@ use Rattle.qe_tower.proofs.Joined.{ring_of, one_map, joined, lift_map}
 use Rattle.qe_tower.proofs.Readings.{Reads, reads-add, reads-mul, reads-equal, reads-self}
 use Rattle.qe_tower.proofs.ValidNumbers.{valid_operations, valid_sign, ValidEqual, valid_ordered}
 
+-- elements and numbers are commutative rings
 pub ring_laws : RingLaws
 ring_laws = record {
   over-tower = λ n t h. equal_ring (operations t) (sign t) (Alike n) (ordered t h);
@@ -77,15 +78,18 @@ order_of_numbers = record {
   kept-by-product = λ x y z p q k. kept_by_product valid_operations valid_sign ValidEqual valid_ordered (x, p) (y, q) (z, k);
 }
 
+-- the order of elements and of numbers
 pub order_laws : OrderLaws
 order_laws = record { over-tower = λ n t h. order_over t h; of-numbers = order_of_numbers }
 
+-- the signs of sums
 pub sum_laws : SumLaws
 sum_laws = record {
   over-tower = λ n t h x y. sum_in_words (sign t x) (sign t y) (sign t ((operations t).add x y)) ((ordered t h).sign-add x y);
   of-numbers = λ x y p q. sum_in_words (sign_of x) (sign_of y) (sign_of (add x y)) (valid_ordered.sign-add (x, p) (y, q));
 }
 
+-- the signs of products
 pub product_laws : ProductLaws
 product_laws = record {
   over-tower = λ n t h x y. (ordered t h).sign-mul x y;
@@ -117,6 +121,7 @@ module _ {n : ℕ} (t : Tower n) (h : IsTower t) (x y : Element n) where
       product : Element n
       product = (operations t).mul x y
 
+-- maps between towers, and equal numbers
 pub carry_laws : CarryLaws
 carry_laws = record {
   joined = λ n m t u p q. (joined t p u q).0;
