@@ -23,8 +23,8 @@ Twice a b = (adds a a b, λ _. is b a)
 abbrev Own_opposite : Claim (any ∷ given ∷ [])
 Own_opposite a = (is a (opposite a), λ _. is a Zero)
 
-self_opp : (a : Sign) → a ≡ opposite a → a ≡ Zero
-self_opp a h = is-eq a Zero (decide (any ∷ given ∷ []) Own_opposite tt a (subst (λ z. T (is a z)) h (is-same a)))
+self_opposite : (a : Sign) → a ≡ opposite a → a ≡ Zero
+self_opposite a h = is-eq a Zero (decide (any ∷ given ∷ []) Own_opposite tt a (subst (λ z. T (is a z)) h (is-same a)))
 
 module _ {C : Type 0} (o : Operations C) (s : C → Sign) (E : C → C → Type 0) (L : IsOrdered o s E) where
   open o use {zero, one, add, neg, mul}
@@ -32,7 +32,7 @@ module _ {C : Type 0} (o : Operations C) (s : C → Sign) (E : C → C → Type 
 
   -- the sign of zero
   pub sign-zero : s zero ≡ Zero
-  sign-zero = self_opp (s zero) (sign-same zero (neg zero) (solve o E ring [] nought (⊖ nought) refl) ∙ sign-neg zero)
+  sign-zero = self_opposite (s zero) (sign-same zero (neg zero) (solve o E ring [] nought (⊖ nought) refl) ∙ sign-neg zero)
 
   -- the sign of a value is what `signs` reads off its expression
   pub signs_are : (point : List C) (e : Expression) → s (value o point e) ≡ signs o s point e

@@ -125,7 +125,7 @@ module _ {C : Type 0} (o : Operations C) (s : C → Sign) (E : C → C → Type 
   pub norm_law : (x : C × C) → T (adds (s x.0 · s x.0) (opposite (s x.1 · s x.1 · s r)) (nx x))
   norm_law x = law o s E L (r ∷ x.0 ∷ x.1 ∷ []) (a₀ ⊗ a₀) (⊖ (b₀ ⊗ b₀ ⊗ r₀)) (N a₀ b₀) refl
 
-  -- the sign of a pair, picked by its norm; from here on the rows of its definition are not used
+  -- the sign of a pair is picked by that of its norm
   pub is_pick : (x : C × C) → ps x ≡ pick (nx x) (s x.0) (s x.1 · s r)
   is_pick x =
       ap (sign_of_root_sum (s x.0) (s x.1) (s r) (nx x)) (same_sign o s E L (r ∷ x.0 ∷ x.1 ∷ []) (b₀ ⊗ b₀ ⊗ r₀ ⊝ a₀ ⊗ a₀) (⊖ N a₀ b₀) refl)
@@ -137,8 +137,8 @@ module _ {C : Type 0} (o : Operations C) (s : C → Sign) (E : C → C → Type 
 
   -- pairs that are equal part by part have one sign
   pub pair_sign-same : (x y : C × C) → EqualParts E x y → ps x ≡ ps y
-  pair_sign-same x y e = is_pick x ∙ pick₃ (sign-same (norm o r x.0 x.1) (norm o r y.0 y.1) norms) (sign-same x.0 y.0 e.0) (ap (λ z. z · s r)
-      (sign-same x.1 y.1 e.1)) ∙ sym (is_pick y)
+  pair_sign-same x y e = is_pick x ∙ pick₃ (sign-same (norm o r x.0 x.1) (norm o r y.0 y.1) norms) (sign-same x.0 y.0 e.0)
+      (ap (λ z. z · s r) (sign-same x.1 y.1 e.1)) ∙ sym (is_pick y)
     where
       norms : E (norm o r x.0 x.1) (norm o r y.0 y.1)
       norms = add-same (mul x.0 x.0) (mul y.0 y.0) (neg (mul (mul x.1 x.1) r)) (neg (mul (mul y.1 y.1) r)) (mul-same x.0 y.0 x.0 y.0 e.0 e.0)

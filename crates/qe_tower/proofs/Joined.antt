@@ -1,6 +1,6 @@
 -- Maps between towers: there is one at most; lifting and carrying are such maps, and two of them come together over the joined tower.
 use Rattle.std.proofs.Common.{◌≡◌, ℕ, zero, suc, ℤ, pos, negsuc, List, [], ◌∷◌, refl, sym, ap, subst, ◌∙◌, add-one}
-use Rattle.qe_ring.specs.Ring.{Operations, IsRing}
+use Rattle.qe_ring.specs.Ring.{IsRing}
 use Rattle.qe_ring.specs.Sign.{IsNotMinus, int_sign}
 use Rattle.qe_ring.specs.Ordered.{EqualBySign, int_operations}
 use Rattle.qe_ring.specs.Expression.{Expression, var, nought, unit, ◌⊕◌, ◌⊝◌, ⊖◌, ◌⊗◌, value, normal}
@@ -68,7 +68,7 @@ keeps_like t u hu f g K e = record {
       (var 0) (var 4 ⊗ var 5) (e ((operations t).mul a b), (K.mul a b, (e a, (e b, tt)))) refl;
 }
 
--- one map at most
+-- what the fractions are made of: one more, and a fraction times its denominator
 whole_suc : (n : ℕ) → EqualBySign fraction_operations fraction_sign (whole (pos (suc n))) (fraction_operations.add (whole (pos n)) fraction_operations.one)
 whole_suc n = subst (λ z. EqualBySign fraction_operations fraction_sign (whole z) (fraction_operations.add (whole (pos n)) fraction_operations.one))
     (ap pos (add-one n))
@@ -79,9 +79,7 @@ times_den x = same_sign int_operations int_sign (λ a b. a ≡ b) int_ordered (x
     ((var 0 ⊗ var 1) ⊗ unit ⊕ ⊖ var 0 ⊗ (var 1 ⊗ unit)) nought refl
 
 module _ {m : ℕ} (u : Tower m) (hu : IsTower u) where
-  D : Operations (Element m)
-  D = operations u
-
+  -- two maps of the fractions agree on whole numbers, and then everywhere
   whole_nat : (f g : Fraction → Element m) → IsMap bare u f → IsMap bare u g → (n : ℕ) → EqualOver u (f (whole (pos n))) (g (whole (pos n)))
   whole_nat f g F G zero = solve_over u hu (f (whole (pos 0)) ∷ g (whole (pos 0)) ∷ []) (fact unit (var 0) nought ∷ fact (⊖ unit) (var 1) nought ∷ [])
       (var 0) (var 1) (to_zero f F, (to_zero g G, tt)) refl
@@ -133,7 +131,7 @@ module _ {m : ℕ} (u : Tower m) (hu : IsTower u) where
       q : Fraction
       q = whole (pos x.denominator)
 
--- a pair by its parts: (a, b) = lift a + lift b * root
+-- raising by one radicand, and the root of the topmost radicand
 abbrev pub raised : {n : ℕ} (t : Tower n) → Element n → Element (suc n)
 raised t a = (a, (operations t).zero)
 
@@ -144,7 +142,7 @@ top_root t = ((operations t).zero, (operations t).one)
 pub raised_map : {n : ℕ} (t : Tower n) (r : Element n) → IsTower (over t r) → IsMap t (over t r) (raised t)
 raised_map {n} t r h = lifts (operations t) (sign t) (Alike n) (ordered t h.0) r h.1
 
--- a pair is lift a + lift b * root
+-- a pair (a, b) is a + b*root, with a and b raised
 split : {n : ℕ} (t : Tower n) (r : Element n) (h : IsTower (over t r)) (x : Element (suc n))
     → EqualOver (over t r) x ((operations (over t r)).add (raised t x.0) ((operations (over t r)).mul (raised t x.1) (top_root t)))
 split {n} t r h x = parts_equal (operations t) (sign t) (Alike n) (ordered t h.0) r h.1 x
