@@ -94,6 +94,10 @@ pub product_laws : ProductLaws
 product_laws = record {
   over-tower = λ n t h x y. (ordered t h).sign-mul x y;
   of-numbers = λ x y p q. valid_ordered.sign-mul (x, p) (y, q);
+  one-over-tower = λ n t h. (ordered t h).sign-one;
+  one-of-numbers = refl;
+  negative-over-tower = λ n t h x. (ordered t h).sign-neg x;
+  negative-of-numbers = λ x p. valid_ordered.sign-neg (x, p);
 }
 
 -- numbers over one tower read there as their elements

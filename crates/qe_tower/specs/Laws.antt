@@ -1,7 +1,7 @@
 -- What the laws say of the elements over one tower, and of numbers.
 use Rattle.std.specs.Prelude.{◌≡◌, ◌⊎◌, ℕ, suc, pos}
 use Rattle.qe_ring.specs.Ring.{IsRing, IsRingOn, difference}
-use Rattle.qe_ring.specs.Sign.{IsNotMinus, IsNotZero, IsSignOfSum, ◌·◌}
+use Rattle.qe_ring.specs.Sign.{Plus, IsNotMinus, IsNotZero, opposite, IsSignOfSum, ◌·◌}
 use Rattle.qe_tower.specs.Element.{Element, Tower, over, operations}
 use Rattle.qe_tower.specs.Sign.{sign, IsTower, EqualOver, LessOver}
 use Rattle.qe_tower.specs.Number.{lift, carry, join, Number, IsNumber, add, mul, neg, sign_of, whole_number, number_operations, Equal, Less}
@@ -51,10 +51,14 @@ pub record SumLaws : Type 0 where
   pub over-tower : (n : ℕ) (t : Tower n) → IsTower t → (x y : Element n) → IsSignOfSum (sign t x) (sign t y) (sign t ((operations t).add x y))
   pub of-numbers : (x y : Number) → IsNumber x → IsNumber y → IsSignOfSum (sign_of x) (sign_of y) (sign_of (add x y))
 
--- the sign of a product is the product of the signs
+-- the sign of a product is the product of the signs, that of one is plus, and that of a negative is the opposite
 pub record ProductLaws : Type 0 where
   pub over-tower : (n : ℕ) (t : Tower n) → IsTower t → (x y : Element n) → sign t ((operations t).mul x y) ≡ sign t x · sign t y
   pub of-numbers : (x y : Number) → IsNumber x → IsNumber y → sign_of (mul x y) ≡ sign_of x · sign_of y
+  pub one-over-tower : (n : ℕ) (t : Tower n) → IsTower t → sign t (operations t).one ≡ Plus
+  pub one-of-numbers : sign_of (whole_number (pos 1)) ≡ Plus
+  pub negative-over-tower : (n : ℕ) (t : Tower n) → IsTower t → (x : Element n) → sign t ((operations t).neg x) ≡ opposite (sign t x)
+  pub negative-of-numbers : (x : Number) → IsNumber x → sign_of (neg x) ≡ opposite (sign_of x)
 
 -- an element over a tower, as a number
 abbrev pub number : {n : ℕ} → Tower n → Element n → Number
