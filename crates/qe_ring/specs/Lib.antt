@@ -1,2 +1,4 @@
 pub mod Ring
 pub mod Sign
+pub mod Ordered
+pub mod Expression

@@ -1,0 +1,11 @@
+pub mod Cases
+pub mod Adjoin
+pub mod Fractions
+pub mod Towers
+pub mod Field
+pub mod Keeping
+pub mod Joined
+pub mod Readings
+pub mod ValidNumbers
+pub mod WholeNumbers
+pub mod Stated
