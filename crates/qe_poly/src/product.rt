@@ -1,10 +1,10 @@
 //! Products of ordered terms: the products of all pairs are collected by their monomials.
 
-ghost use Rattle.std.specs.Prelude.{◌≡◌, [], cond, map, MatchResult};
+ghost use Rattle.std.specs.Prelude.{◌≡◌, [], cond, map, IfOk, MatchResult};
 ghost use Rattle.qe_poly.specs.Polynomial.{products};
 ghost use Rattle.qe_poly.specs.Limits.{IsStop, or_else};
 ghost use Rattle.qe_poly.specs.Rows.{shown};
-ghost use Rattle.qe_poly.specs.Tally.{shown_group};
+ghost use Rattle.qe_poly.specs.Tally.{shown_group, IsInOrder};
 ghost use Rattle.qe_poly.specs.Collected.{product_row, has_high, exponent_limit, fitted_row, fitted, entered, limit_of, row_wide, pairs_wide, monomials_limit, tallied_limit, tallied_terms, collected_limit};
 
 use crate::limit::{MOST_MONOMIALS, PolyLimit, PolyStop};
@@ -46,7 +46,9 @@ fn enter_row(
     term: &Term,
     right: &[Term],
 ) -> Result<Option<Wide>, PolyStop>
-    ensures { let t = shown term.now in
+    requires { IsInOrder groups.now.items }
+    ensures order { IfOk result (λ _. IsInOrder groups.new.items) }
+    ensures entered { let t = shown term.now in
         let q = map shown right.now in
         let limit = exponent_limit (product_row t q) in
         MatchResult result
