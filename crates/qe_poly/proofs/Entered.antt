@@ -1,5 +1,5 @@
 -- Terms entered one after another into groups with tallies.
-use Rattle.std.proofs.Common.{◌≡◌, T, sym, ap, subst, ◌∙◌, refl, ℕ, suc, ◌+◌, ◌<◌, List, [], ◌∷◌, ◌++◌, Some, None, map, length, take, drop, set, get_or, ℤ, arith}
+use Rattle.std.proofs.Common.{◌≡◌, T, sym, ap, subst, ◌∙◌, refl, ℕ, suc, ◌+◌, ◌<◌, List, [], ◌∷◌, ◌++◌, map, length, take, drop, set, get_or, ℤ, arith}
 use Rattle.std.proofs.lemmas.List.{drop_more, map-append, set_split}
 use Rattle.std.specs.List.{insert}
 use Rattle.std.specs.declared.cmp.Ordering.TheVariants.{Equal}

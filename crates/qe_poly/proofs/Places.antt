@@ -1,13 +1,13 @@
 -- Where a monomial stands among groups in order.
-use Rattle.std.proofs.Common.{◌≡◌, ◌≢◌, refl, sym, ap, subst, ◌∙◌, ℕ, zero, suc, ◌+◌, ◌<◌, ◌≤◌, T, List, [], ◌∷◌, ◌++◌, map, length, take, drop, get_or, ℤ, arith}
-use Rattle.std.proofs.lemmas.List.{drop_more, drop_all}
+use Rattle.std.proofs.Common.{◌≡◌, ◌≢◌, refl, sym, ap, subst, ◌∙◌, ℕ, zero, suc, ◌+◌, ◌<◌, T, List, [], ◌∷◌, map, length, drop, get_or, ℤ, arith}
+use Rattle.std.proofs.lemmas.List.{drop_more}
 use Rattle.std.specs.declared.cmp.Ordering.{Ordering}
 use Rattle.std.specs.declared.cmp.Ordering.TheVariants.{Less, Equal, Greater}
 use Rattle.std.specs.Ordering.{ordering_reverse}
-use Rattle.std.specs.FinMap.Entries.{is_sorted, below_all, by_order}
+use Rattle.std.specs.FinMap.Entries.{below_all, by_order}
 use Rattle.qe_poly.specs.declared.tally.Group as kept_group
 use Rattle.qe_poly.specs.Monomial.{Monomial, in_turn}
-use Rattle.qe_poly.specs.Tally.{Tally, shown_group, tally_more, empty_tally, enter_tally, IsInOrder, IsSplit, IsTied, IsAhead}
+use Rattle.qe_poly.specs.Tally.{Tally, shown_group, tally_more, empty_tally, enter_tally, IsInOrder, IsSplit, IsTied}
 use Rattle.qe_poly.proofs.Order.{turn_total, turn_same}
 use Rattle.qe_poly.proofs.Sorted.{less_back, below_first, below_rest, sorted_first, sorted_rest}
 

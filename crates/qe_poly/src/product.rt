@@ -8,7 +8,7 @@ ghost use Rattle.qe_poly.specs.Tally.{shown_group, IsInOrder};
 ghost use Rattle.qe_poly.specs.Collected.{product_row, has_high, exponent_limit, fitted_row, fitted, entered, limit_of, row_wide, pairs_wide, monomials_limit, tallied_limit, tallied_terms, collected_limit};
 
 use crate::limit::{MOST_MONOMIALS, PolyLimit, PolyStop};
-use crate::tally::{enter, Group};
+use crate::tally::{Group, enter};
 use crate::term::Term;
 use qe_coef::{Coef, Wide};
 use std::alloc::Global;
@@ -53,7 +53,7 @@ fn enter_row(
         let limit = exponent_limit (product_row t q) in
         MatchResult result
         (λ wide. (limit ≡ None) × (limit_of wide ≡ or_else (limit_of first) (row_wide t q))
-            × (map shown_group groups.new.items ≡ entered (fitted_row t q) (map shown_group groups.old.items)))
+        × (map shown_group groups.new.items ≡ entered (fitted_row t q) (map shown_group groups.old.items)))
         (IsStop limit) }
 {
     let mut wide = first;

@@ -1,4 +1,4 @@
-use Rattle.std.proofs.Common.{◌≡◌, ◌∙◌, map, drop, [], ◌+◌}
+use Rattle.std.proofs.Common.{◌∙◌, map, drop, [], ◌+◌}
 use Rattle.qe_poly.specs.Polynomial.{products}
 use Rattle.qe_poly.specs.Rows.{shown}
 use Rattle.qe_poly.specs.Tally.{shown_group}

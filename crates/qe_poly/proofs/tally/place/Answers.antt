@@ -1,4 +1,4 @@
-use Rattle.std.proofs.Common.{ℕ, ◌≡◌, ◌+◌, ◌-◌, ◌/◌, ◌<◌, ◌≤◌, sym, length, arith}
+use Rattle.std.proofs.Common.{ℕ, ◌+◌, ◌-◌, ◌/◌, ◌<◌, ◌≤◌, sym, length, arith}
 use Rattle.qe_poly.proofs.Places.{place_tied, split_past}
 use Rattle.qe_poly.proofs.tally.place.Goals as goal
 
