@@ -4,8 +4,11 @@
 
 mod limit;
 mod monomial;
+mod part;
 mod poly;
+mod product;
 mod sum;
+mod tally;
 mod term;
 
 pub use limit::{PolyLimit, PolyStop};
