@@ -2,3 +2,9 @@ pub mod Cases
 pub mod Adjoin
 pub mod Fractions
 pub mod Towers
+pub mod Field
+pub mod Keeping
+pub mod Joined
+pub mod Readings
+pub mod ValidNumbers
+pub mod Stated
