@@ -8,3 +8,4 @@ pub mod Parts
 pub mod KeptTerms
 pub mod Constants
 pub mod Merging
+pub mod Values
