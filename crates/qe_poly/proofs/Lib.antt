@@ -9,3 +9,4 @@ pub mod KeptTerms
 pub mod Constants
 pub mod Merging
 pub mod Values
+pub mod QuadraticValues

@@ -57,6 +57,21 @@ module _ {C : Type 0} (o : Operations C) (E : C → C → Type 0) (R : IsRing o 
   multiple_term : (a c m rest : C) → E (add (mul (mul a c) m) (mul c rest)) (mul c (add (mul a m) rest))
   multiple_term a c m rest = solve o E R (a ∷ c ∷ m ∷ rest ∷ []) (var 0 ⊗ var 1 ⊗ var 2 ⊕ var 1 ⊗ var 3) (var 1 ⊗ (var 0 ⊗ var 2 ⊕ var 3)) refl
 
+  -- ---- points with equal values
+
+  power-same : (u v : C) → E u v → (n : ℕ) → E (power_of o u n) (power_of o v n)
+  power-same u v equal zero = same one
+  power-same u v equal (suc n) = mul₂ equal (power-same u v equal n)
+
+  module _ (left right : ℕ → C) (equal : (x : ℕ) → E (left x) (right x)) where
+    monomial_value-same : (m : Monomial) → E (monomial_value o left m) (monomial_value o right m)
+    monomial_value-same [] = same one
+    monomial_value-same (a ∷ m) = mul₂ (power-same (left a.var.0) (right a.var.0) (equal a.var.0) a.exponent) (monomial_value-same m)
+
+    pub value-same : (whole : ℤ → C) (ts : List Term) → E (value o whole left ts) (value o whole right ts)
+    value-same whole [] = same nil
+    value-same whole (t ∷ ts) = add₂ (mul₂ (same (whole t.1)) (monomial_value-same t.0)) (value-same whole ts)
+
   module _ (whole : ℤ → C) (W : IsWhole o E whole) (point : ℕ → C) where
     abbrev at_monomial : Monomial → C
     at_monomial m = monomial_value o point m

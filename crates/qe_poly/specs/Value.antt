@@ -32,6 +32,10 @@ pub record IsWhole {C : Type 0} (o : Operations C) (E : C → C → Type 0) (who
 abbrev pub updated : {C : Type 0} → (ℕ → C) → ℕ → C → ℕ → C
 updated point x v y = cond (eqb x y) v (point y)
 
+-- a*v^2 + b*v + c
+abbrev pub quadratic : {C : Type 0} → Operations C → C → C → C → C → C
+quadratic o v a b c = o.add (o.add (o.mul a (o.mul v v)) (o.mul b v)) c
+
 -- the multiple of a polynomial: each coefficient times c, and no terms where c is zero
 abbrev pub scaled : ℤ → Polynomial → Polynomial
 scaled c p = nonzero (map (λ t. (t.0, t.1 *ℤ c)) p)
