@@ -4,4 +4,6 @@ pub mod Coefficients
 pub mod Value
 pub mod Limits
 pub mod Rows
+pub mod Tally
+pub mod Collected
 pub mod Equal
