@@ -13,4 +13,5 @@ pub mod KeptTerms
 pub mod Constants
 pub mod Merging
 pub mod Values
+pub mod ProductValues
 pub mod QuadraticValues

@@ -8,7 +8,7 @@ use Rattle.qe_ring.specs.Ring.{Operations, IsRing}
 use Rattle.qe_ring.specs.Expression.{var, nought, ◌⊕◌, ◌⊗◌, ⊖◌}
 use Rattle.qe_ring.proofs.Solver.{solve}
 use Rattle.qe_poly.specs.Monomial.{Monomial, in_turn}
-use Rattle.qe_poly.specs.Polynomial.{Term, Polynomial, Group, enter, gathered, total, nonzero, collected, negative, sum, difference}
+use Rattle.qe_poly.specs.Polynomial.{Term, Polynomial, Group, enter, with_first, gathered, total, nonzero, collected, negative, sum, difference}
 use Rattle.qe_poly.specs.Value.{power_of, monomial_value, value, IsWhole, scaled}
 use Rattle.qe_poly.proofs.Order.{turn_same}
 
@@ -106,10 +106,10 @@ module _ {C : Type 0} (o : Operations C) (E : C → C → Type 0) (R : IsRing o 
     alone : (c : ℤ) (m rest : C) → E (add (mul (whole (c +ℤ pos 0)) m) rest) (add (mul (whole c) m) rest)
     alone c m rest = with_sum c (pos 0) m rest ▸ add₂ (same (mul (whole c) m)) (add₂ (mul₂ W.zero (same m) ▸ nil-mul m) (same rest) ▸ nil-add rest)
 
-    enter-value : (t : Term) (gs : List Group) → E (val (group_terms (enter t gs))) (add (at_term t) (val (group_terms gs)))
+    enter-value : (t : Term) (gs : List Group) → E (val (group_terms (enter with_first t gs))) (add (at_term t) (val (group_terms gs)))
     enter-value t [] = alone t.1 (at_monomial t.0) nil
     enter-value t (g ∷ gs) =
-        elim (in_turn t.0 g.0) as (λ r. in_turn t.0 g.0 ≡ r → E (val (group_terms (by_order r ((t.0, t.1 ∷ []) ∷ g ∷ gs) ((g.0, t.1 ∷ g.1) ∷ gs) (g ∷ enter t gs)))) (add (at_term t) (val (group_terms (g ∷ gs))))) [
+        elim (in_turn t.0 g.0) as (λ r. in_turn t.0 g.0 ≡ r → E (val (group_terms (by_order r ((t.0, t.1 ∷ []) ∷ g ∷ gs) ((g.0, t.1 ∷ g.1) ∷ gs) (g ∷ enter with_first t gs)))) (add (at_term t) (val (group_terms (g ∷ gs))))) [
           | Less ↦ λ before. alone t.1 (at_monomial t.0) (val (group_terms (g ∷ gs)))
           | Equal ↦ λ tie. with_sum t.1 (total g.1) (at_monomial g.0) (val (group_terms gs)) ▸ add₂ (mul₂ (same (whole t.1)) (same_of_eq (ap (monomial_value o point) (sym (turn_same t.0 g.0 tie))))) (same (val (group_terms (g ∷ gs))))
           | Greater ↦ λ after. add₂ (same (mul (whole (total g.1)) (at_monomial g.0))) (enter-value t gs) ▸ past (mul (whole (total g.1)) (at_monomial g.0)) (at_term t) (val (group_terms gs))
