@@ -7,14 +7,15 @@ use Rattle.qe_tower.specs.Number.{Number, IsNumber, add, mul, neg, whole_number,
 use Rattle.qe_tower.specs.Point.{Point, IsPoint, look_up, or_zero, number_at}
 use Rattle.qe_tower.proofs.ValidNumbers.{ValidNumber, valid_operations, ValidEqual, valid_ordered}
 use Rattle.qe_poly.specs.Monomial.{Monomial}
-use Rattle.qe_poly.specs.Polynomial.{Term, Polynomial, IsPolynomial, sum, negative}
+use Rattle.qe_poly.specs.Polynomial.{Term, Polynomial, IsPolynomial, sum, negative, product}
 use Rattle.qe_poly.specs.Coefficients.{degree_in, coefficient_in}
 use Rattle.qe_poly.specs.Value.{IsWhole, updated, quadratic, scaled}
 use Rattle.qe_poly.specs.Value as ring
 use Rattle.qe_poly.proofs.Values.{sum-value, negative-value, scaled-value, value-same}
+use Rattle.qe_poly.proofs.ProductValues.{product-value}
 use Rattle.qe_poly.proofs.QuadraticValues.{quadratic-updated}
 use Rattle.qe_form.specs.Value.{value}
-use Rattle.qe_form.specs.Laws.{ValueOfSum, ValueOfNegative, ValueOfMultiple}
+use Rattle.qe_form.specs.Laws.{ValueOfSum, ValueOfNegative, ValueOfProduct, ValueOfMultiple}
 
 -- the whole numbers are numbers
 abbrev pub valid_whole : ℤ → ValidNumber
@@ -80,6 +81,10 @@ value_of_sum q r p valid = rewritten (value-number p valid (sum q r)) (ap₂ add
 pub value_of_negative : ValueOfNegative
 value_of_negative q p valid = rewritten (value-number p valid (negative q)) (ap neg (value-number p valid q))
     (negative-value valid_operations ValidEqual R valid_whole whole_numbers (valid_point p valid) q)
+
+pub value_of_product : ValueOfProduct
+value_of_product q r p valid = rewritten (value-number p valid (product q r)) (ap₂ mul (value-number p valid q) (value-number p valid r))
+    (product-value valid_operations ValidEqual R (valid_point p valid) valid_whole whole_numbers q r)
 
 pub value_of_multiple : ValueOfMultiple
 value_of_multiple c q p valid = rewritten (value-number p valid (scaled c q)) (ap (mul (whole_number c)) (value-number p valid q))

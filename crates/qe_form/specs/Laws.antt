@@ -2,7 +2,7 @@
 use Rattle.std.specs.Prelude.{ℕ, ℤ, Bool, true, false, ◌⊎◌, ◌↔◌, Option, Some, None}
 use Rattle.qe_tower.specs.Number.{Number, add, mul, neg, whole_number, Equal}
 use Rattle.qe_tower.specs.Point.{Point, IsPoint, look_up}
-use Rattle.qe_poly.specs.Polynomial.{Polynomial, sum, negative}
+use Rattle.qe_poly.specs.Polynomial.{Polynomial, sum, negative, product}
 use Rattle.qe_poly.specs.Value.{scaled}
 use Rattle.qe_form.specs.Formula.{Formula, Formulas, And, Or, Not, Implies, Iff, Ex, All}
 use Rattle.qe_form.specs.Value.{value}
@@ -56,6 +56,10 @@ ValueOfSum = (q r : Polynomial) (p : Point) → IsPoint p → Equal (value (sum 
 -- the value of a negative is the negative of the value
 abbrev pub ValueOfNegative : Type 0
 ValueOfNegative = (q : Polynomial) (p : Point) → IsPoint p → Equal (value (negative q) p) (neg (value q p))
+
+-- the value of a product is the product of the values
+abbrev pub ValueOfProduct : Type 0
+ValueOfProduct = (q r : Polynomial) (p : Point) → IsPoint p → Equal (value (product q r) p) (mul (value q p) (value r p))
 
 -- the value of a multiple is the multiple of the value
 abbrev pub ValueOfMultiple : Type 0

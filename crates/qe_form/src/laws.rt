@@ -1,6 +1,6 @@
 //! The laws of values and of truth. Each function does nothing: its clause is the law.
 
-ghost use Rattle.qe_form.specs.Laws.{NeverBoth, Decided, Classical, SameIsPreorder, SameIsKept, SameIsLiteral, ValueOfSum, ValueOfNegative, ValueOfMultiple, EqualPoints};
+ghost use Rattle.qe_form.specs.Laws.{NeverBoth, Decided, Classical, SameIsPreorder, SameIsKept, SameIsLiteral, ValueOfSum, ValueOfNegative, ValueOfProduct, ValueOfMultiple, EqualPoints};
 
 /// No formula is both true and false at a point.
 pub fn never_both()
@@ -40,6 +40,11 @@ pub fn value_of_sum()
 /// The value of a negative is the negative of the value, at every point.
 pub fn value_of_negative()
     ensures { ValueOfNegative }
+{}
+
+/// The value of a product is the product of the values, at every point.
+pub fn value_of_product()
+    ensures { ValueOfProduct }
 {}
 
 /// The value of a polynomial times a whole number is that number times the value, at every point.
