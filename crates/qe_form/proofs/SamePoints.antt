@@ -2,8 +2,8 @@
 use Rattle.std.proofs.Common.{ℕ, Bool, true, false, not, ◌≡◌, ◌∙◌, sym, ap, refl, inl, inr, eqb, ◌∷◌, Option, Some, None, if◌then◌else◌}
 use Rattle.qe_ring.specs.Ring.{IsRing}
 use Rattle.qe_tower.specs.Number.{Number, IsNumber, sign_of, Equal}
-use Rattle.qe_tower.specs.Point.{Point, IsPoint, look_up, or_zero, number_at}
-use Rattle.qe_tower.proofs.ValidNumbers.{ValidNumber, valid_operations, ValidEqual, valid_ordered}
+use Rattle.qe_tower.specs.Point.{Point, IsPoint, look_up, or_zero}
+use Rattle.qe_tower.proofs.ValidNumbers.{valid_operations, ValidEqual, valid_ordered}
 use Rattle.qe_poly.specs.Polynomial.{Polynomial}
 use Rattle.qe_poly.proofs.Values.{value-same}
 use Rattle.qe_form.specs.Formula.{Formula, Formulas, True, False, Atom, And, Or, Not, Implies, Iff, Ex, All, no_more, more}

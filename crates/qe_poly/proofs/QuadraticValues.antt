@@ -1,5 +1,5 @@
 -- The value where one variable has another value: a polynomial of degree at most two in it is a*v^2 + b*v + c.
-use Rattle.std.proofs.Common.{◌≡◌, refl, sym, ap, subst, ◌∙◌, ℕ, zero, suc, ◌<◌, ◌≤◌, eqb, true, false, cond, List, [], ◌∷◌, ℤ, arith}
+use Rattle.std.proofs.Common.{◌≡◌, refl, ap, subst, ℕ, zero, suc, ◌≤◌, eqb, true, false, cond, [], ◌∷◌, ℤ, arith}
 use Rattle.std.proofs.lemmas.Bool.{eqb-true}
 use Rattle.std.proofs.lemmas.Bool.Decides.{nat_tests}
 use Rattle.qe_ring.specs.Ring.{Operations, IsRing}
