@@ -1,14 +1,17 @@
--- The value of a sum, a negative or a multiple is the sum, the negative or the multiple of the values, in every ring.
-use Rattle.std.proofs.Common.{◌≡◌, refl, sym, ap, subst, ℕ, zero, suc, true, false, cond, List, [], ◌∷◌, ◌++◌, map, ℤ, pos, ◌+ℤ◌, ◌*ℤ◌}
-use Rattle.std.proofs.lemmas.Bool.Decides.{Decides-int_eq}
+-- The value of a sum, a negative or a multiple is the sum, the negative or the multiple of the values, in every ring;
+-- that of a constant is its number, and that of a power of a variable is the power of its value.
+use Rattle.std.proofs.Common.{◌≡◌, refl, sym, ap, subst, ℕ, zero, suc, true, false, cond, List, [], ◌∷◌, ◌++◌, map, ℤ, pos, ◌+ℤ◌, ◌*ℤ◌, eqb, arith}
+use Rattle.std.proofs.lemmas.Bool.Decides.{Decides-int_eq, nat_tests}
 use Rattle.std.specs.declared.cmp.Ordering.TheVariants.{Less, Equal, Greater}
 use Rattle.std.specs.Ordering.{int_eq}
 use Rattle.std.specs.FinMap.Entries.{by_order}
 use Rattle.qe_ring.specs.Ring.{Operations, IsRing}
-use Rattle.qe_ring.specs.Expression.{var, nought, ◌⊕◌, ◌⊗◌, ⊖◌}
+use Rattle.qe_ring.specs.Expression.{var, nought, unit, ◌⊕◌, ◌⊗◌, ⊖◌}
 use Rattle.qe_ring.proofs.Solver.{solve}
-use Rattle.qe_poly.specs.Monomial.{Monomial, in_turn}
-use Rattle.qe_poly.specs.Polynomial.{Term, Polynomial, Group, enter, with_first, gathered, total, nonzero, collected, negative, sum, difference}
+use Rattle.qe_poly.specs.declared.monomial.Var.{Var}
+use Rattle.qe_poly.specs.Monomial.{Monomial, in_turn, power}
+use Rattle.qe_poly.specs.Polynomial.{Term, Polynomial, Group, enter, with_first, gathered, total, nonzero, collected, constant, negative, sum, difference}
+use Rattle.qe_poly.specs.Polynomial as polynomial
 use Rattle.qe_poly.specs.Value.{power_of, monomial_value, value, IsWhole, scaled}
 use Rattle.qe_poly.proofs.Order.{turn_same}
 
@@ -121,6 +124,20 @@ module _ {C : Type 0} (o : Operations C) (E : C → C → Type 0) (R : IsRing o 
 
     pub collected-value : (ts : List Term) → E (val (collected ts)) (val ts)
     collected-value ts = nonzero-value (group_terms (gathered ts)) ▸ gathered-value ts
+
+    -- ---- constants and powers
+
+    pub constant-value : (c : ℤ) → E (val (constant c)) (whole c)
+    constant-value c = nonzero-value (([], c) ∷ []) ▸ add-zero (mul (whole c) one) ▸ mul-one (whole c)
+
+    power-at : (x : Var) (n : ℕ) → E (at_monomial (power x n)) (power_of o (point x.0) n)
+    power-at x zero = same one
+    power-at x (suc n) =
+        let positive : eqb (suc n) 0 ≡ false = grind (arith, nat_tests) in
+        same_of_eq (ap (λ b. at_monomial (cond b [] (record { var = x; exponent = suc n } ∷ []))) positive) ▸ mul-one (power_of o (point x.0) (suc n))
+
+    pub power-value : (x : Var) (n : ℕ) → E (val (polynomial.power_of x n)) (power_of o (point x.0) n)
+    power-value x n = add₂ (mul₂ W.one (power-at x n)) (same nil) ▸ solve o E R (power_of o (point x.0) n ∷ []) (unit ⊗ var 0 ⊕ nought) (var 0) refl
 
     -- ---- the operations
 
