@@ -30,19 +30,26 @@ module _ {C : Type 0} (o : Operations C) (s : C → Sign) (E : C → C → Type 
   open o use {zero, one, add, neg, mul}
   open L use {ring, sign-same, sign-one, sign-neg, sign-mul, sign-add}
 
+  -- what is equal up to E is equal by the sign of the difference
   pub weaken : (a b : C) → E a b → EqualBySign o s a b
-  weaken a b h = sign-same (difference o a b) zero (ring.then (difference o a b) (difference o b b) zero (ring.add-same a b (neg b) (neg b) h (ring.same (neg b))) (ring.add-neg b)) ∙ sign-zero o s E L
+  weaken a b h = sign-same (difference o a b) zero
+      (ring.then (difference o a b) (difference o b b) zero (ring.add-same a b (neg b) (neg b) h (ring.same (neg b))) (ring.add-neg b))
+      ∙ sign-zero o s E L
 
   -- an expression that two zeros give is zero
-  pub zero_by : (point : List C) (u v a b w : Expression) → signs o s point u ≡ Zero → signs o s point v ≡ Zero → normal (a ⊗ u ⊕ b ⊗ v ⊝ w) ≡ [] → signs o s point w ≡ Zero
-  zero_by point u v a b w hu hv e = is-eq (sg w) Zero (decide (any ∷ given ∷ any ∷ given ∷ any ∷ any ∷ any ∷ given ∷ []) Both tt (sg u) (to_is (sg u) Zero hu) (sg v) (to_is (sg v) Zero hv) (sg a) (sg b) (sg w) (law o s E L point (a ⊗ u) (b ⊗ v) w e))
+  pub zero_by : (point : List C) (u v a b w : Expression) → signs o s point u ≡ Zero → signs o s point v ≡ Zero → normal (a ⊗ u ⊕ b ⊗ v ⊝ w) ≡ []
+      → signs o s point w ≡ Zero
+  zero_by point u v a b w hu hv e = is-eq (sg w) Zero (decide (any ∷ given ∷ any ∷ given ∷ any ∷ any ∷ any ∷ given ∷ []) Both tt (sg u)
+      (to_is (sg u) Zero hu) (sg v) (to_is (sg v) Zero hv) (sg a) (sg b) (sg w) (law o s E L point (a ⊗ u) (b ⊗ v) w e))
     where
       sg : Expression → Sign
       sg t = signs o s point t
 
+  -- the solver, for this equality
   pub by_ring : (point : List C) (a b : Expression) → normal (a ⊝ b) ≡ [] → EqualBySign o s (value o point a) (value o point b)
   by_ring point a b h = weaken (value o point a) (value o point b) (solve o E ring point a b h)
 
+  -- the ring up to this equality
   pub equal_ring : IsRing o (EqualBySign o s)
   equal_ring = record {
     same = λ a. by_ring (a ∷ []) x₀ x₀ refl;
@@ -61,8 +68,11 @@ module _ {C : Type 0} (o : Operations C) (s : C → Sign) (E : C → C → Type 
     mul-add = λ a b c. by_ring (a ∷ b ∷ c ∷ []) (x₀ ⊗ (x₁ ⊕ x₂)) (x₀ ⊗ x₁ ⊕ x₀ ⊗ x₂) refl;
   }
 
+  -- what is equal has one sign
   pub equal_sign : (a b : C) → EqualBySign o s a b → s a ≡ s b
-  equal_sign a b h = is-eq (s a) (s b) (decide (any ∷ given ∷ any ∷ any ∷ given ∷ []) Left tt (s (difference o a b)) (to_is (s (difference o a b)) Zero h) (s b) (s a) (law o s E L (a ∷ b ∷ []) (x₀ ⊝ x₁) x₁ x₀ refl))
+  equal_sign a b h = is-eq (s a) (s b) (decide (any ∷ given ∷ any ∷ any ∷ given ∷ []) Left tt (s (difference o a b))
+      (to_is (s (difference o a b)) Zero h) (s b) (s a) (law o s E L (a ∷ b ∷ []) (x₀ ⊝ x₁) x₁ x₀ refl))
 
+  -- and the ordered ring
   pub equal_ordered : IsOrdered o s (EqualBySign o s)
   equal_ordered = record { ring = equal_ring; sign-same = equal_sign; sign-one = sign-one; sign-neg = sign-neg; sign-mul = sign-mul; sign-add = sign-add }

@@ -42,11 +42,14 @@ pub decide : (k : List Step) (p : Claim k) → T (every k p) → Holds k p
 decide [] b = λ h. h
 decide (any ∷ k) p = λ h. elim [
   | Minus ↦ decide k (p Minus) (first (every k (p Minus)) (elim (every k (p Zero)) [ true ↦ every k (p Plus) | false ↦ false ]) h)
-  | Zero ↦ decide k (p Zero) (first (every k (p Zero)) (every k (p Plus)) (second (every k (p Minus)) (elim (every k (p Zero)) [ true ↦ every k (p Plus) | false ↦ false ]) h))
-  | Plus ↦ decide k (p Plus) (second (every k (p Zero)) (every k (p Plus)) (second (every k (p Minus)) (elim (every k (p Zero)) [ true ↦ every k (p Plus) | false ↦ false ]) h))
+  | Zero ↦ decide k (p Zero) (first (every k (p Zero)) (every k (p Plus))
+      (second (every k (p Minus)) (elim (every k (p Zero)) [ true ↦ every k (p Plus) | false ↦ false ]) h))
+  | Plus ↦ decide k (p Plus) (second (every k (p Zero)) (every k (p Plus))
+      (second (every k (p Minus)) (elim (every k (p Zero)) [ true ↦ every k (p Plus) | false ↦ false ]) h))
 ]
 decide (given ∷ k) p = λ h t. decide k (p.1 tt) (passed p.0 (every k (p.1 tt)) h t)
 
+-- from the test of two signs to their equation, and back
 pub is-eq : (s t : Sign) → T (is s t) → s ≡ t
 is-eq Minus Minus h = refl
 is-eq Minus Zero h = absurd h

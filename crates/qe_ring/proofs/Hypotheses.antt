@@ -14,11 +14,13 @@ x₁ = var 1
 pub data Given : Type 0 where
   fact : Expression → Expression → Expression → Given
 
+-- the sum of the multiples
 abbrev pub pull : List Given → Expression
 pull [] = nought
 pull (fact c l r ∷ gs) = c ⊗ (l ⊝ r) ⊕ pull gs
 
 module _ {C : Type 0} (o : Operations C) (E : C → C → Type 0) (R : IsRing o E) where
+  -- each equation holds
   abbrev pub All_given : List C → List Given → Type 0
   All_given point [] = Unit {0}
   All_given point (fact c l r ∷ gs) = E (value o point l) (value o point r) × All_given point gs
@@ -33,7 +35,9 @@ module _ {C : Type 0} (o : Operations C) (E : C → C → Type 0) (R : IsRing o 
       (pulled point gs h.1))
       (solve o E R (value o point c ∷ value o point r ∷ []) (x₀ ⊗ (x₁ ⊝ x₁) ⊕ nought) nought refl)
 
-  pub solve_by : (point : List C) (gs : List Given) (a b : Expression) → All_given point gs → normal (a ⊝ (b ⊕ pull gs)) ≡ [] → E (value o point a) (value o point b)
+  -- the solver with hypotheses: where a is b and the multiples by computing, and each equation holds, a and b have one value
+  pub solve_by : (point : List C) (gs : List Given) (a b : Expression) → All_given point gs → normal (a ⊝ (b ⊕ pull gs)) ≡ []
+      → E (value o point a) (value o point b)
   solve_by point gs a b h e =
       R.then (value o point a) (value o point (b ⊕ pull gs)) (value o point b) (solve o E R point a (b ⊕ pull gs) e)
       (R.then (value o point (b ⊕ pull gs)) (o.add (value o point b) o.zero) (value o point b)

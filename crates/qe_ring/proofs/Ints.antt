@@ -17,10 +17,12 @@ mul_assoc_z a b c = same_in ((a *ℤ b) *ℤ c) (a *ℤ (b *ℤ c)) (simp (up-mu
 
 mul-add_z : (a b c : ℤ) → a *ℤ (b +ℤ c) ≡ a *ℤ b +ℤ a *ℤ c
 mul-add_z a b c = same_in (a *ℤ (b +ℤ c)) (a *ℤ b +ℤ a *ℤ c)
-    (simp (up-mul, down-mul) (parts (up a) (down a) (up b) (down b) (up c) (down c) (up (b +ℤ c)) (down (b +ℤ c)) (up (a *ℤ b)) (down (a *ℤ b)) (up (a *ℤ c)) (down (a *ℤ c)) (up (a *ℤ b +ℤ a *ℤ c)) (down (a *ℤ b +ℤ a *ℤ c))
+    (simp (up-mul, down-mul) (parts (up a) (down a) (up b) (down b) (up c) (down c) (up (b +ℤ c)) (down (b +ℤ c)) (up (a *ℤ b)) (down (a *ℤ b))
+    (up (a *ℤ c)) (down (a *ℤ c)) (up (a *ℤ b +ℤ a *ℤ c)) (down (a *ℤ b +ℤ a *ℤ c))
     (sum_is_lem b c) (up-mul a b) (down-mul a b) (up-mul a c) (down-mul a c) (sum_is_lem (a *ℤ b) (a *ℤ c))))
   where
-    parts : (ua da ub db uc dc us ds ux dx uy dy ut dt : ℕ) → us + db + dc ≡ ds + ub + uc → ux ≡ ua * ub + da * db → dx ≡ ua * db + da * ub → uy ≡ ua * uc + da * dc → dy ≡ ua * dc + da * uc
+    parts : (ua da ub db uc dc us ds ux dx uy dy ut dt : ℕ) → us + db + dc ≡ ds + ub + uc → ux ≡ ua * ub + da * db → dx ≡ ua * db + da * ub → uy
+        ≡ ua * uc + da * dc → dy ≡ ua * dc + da * uc
         → ut + dx + dy ≡ dt + ux + uy → (ua * us + da * ds) + dt ≡ ut + (ua * ds + da * us)
     parts ua da ub db uc dc us ds ux dx uy dy ut dt e h₁ h₂ h₃ h₄ h₅ = omega (arith, ap (λ z. ua * z) e, ap (λ z. da * z) e)
 
@@ -50,19 +52,20 @@ sign-neg_z (pos zero) = refl
 sign-neg_z (pos (suc n)) = refl
 sign-neg_z (negsuc n) = refl
 
-pub above : (n : ℕ) → 0 < n → int_sign (pos n) ≡ Plus
-above zero h = absurd (omega arith)
-above (suc n) h = refl
+-- what is positive has the sign plus
+pub plus_of_positive : (n : ℕ) → 0 < n → int_sign (pos n) ≡ Plus
+plus_of_positive zero h = absurd (omega arith)
+plus_of_positive (suc n) h = refl
 
 sign-mul_z : (a b : ℤ) → int_sign (a *ℤ b) ≡ int_sign a · int_sign b
 sign-mul_z (pos zero) (pos b) = ap (λ z. int_sign (pos z)) (zero-mul b)
 sign-mul_z (pos (suc a)) (pos zero) = ap (λ z. int_sign (pos z)) (mul-zero (suc a))
-sign-mul_z (pos (suc a)) (pos (suc b)) = above (suc a * suc b) (omega arith)
+sign-mul_z (pos (suc a)) (pos (suc b)) = plus_of_positive (suc a * suc b) (omega arith)
 sign-mul_z (pos zero) (negsuc b) = ap (λ z. int_sign (neg_ℤ (pos z))) (zero-mul (suc b))
-sign-mul_z (pos (suc a)) (negsuc b) = sign-neg_z (pos (suc a * suc b)) ∙ ap opposite (above (suc a * suc b) (omega arith))
+sign-mul_z (pos (suc a)) (negsuc b) = sign-neg_z (pos (suc a * suc b)) ∙ ap opposite (plus_of_positive (suc a * suc b) (omega arith))
 sign-mul_z (negsuc a) (pos zero) = ap (λ z. int_sign (neg_ℤ (pos z))) (mul-zero (suc a))
-sign-mul_z (negsuc a) (pos (suc b)) = sign-neg_z (pos (suc a * suc b)) ∙ ap opposite (above (suc a * suc b) (omega arith))
-sign-mul_z (negsuc a) (negsuc b) = above (suc a * suc b) (omega arith)
+sign-mul_z (negsuc a) (pos (suc b)) = sign-neg_z (pos (suc a * suc b)) ∙ ap opposite (plus_of_positive (suc a * suc b) (omega arith))
+sign-mul_z (negsuc a) (negsuc b) = plus_of_positive (suc a * suc b) (omega arith)
 
 adds_z : (a b u : ℤ) → up u + down a + down b ≡ down u + up a + up b → T (adds (int_sign a) (int_sign b) (int_sign u))
 adds_z (pos zero) (pos zero) (pos zero) e = tt
@@ -92,6 +95,7 @@ adds_z (negsuc a) (negsuc b) (negsuc u) e = tt
 sign-add_z : (a b : ℤ) → T (adds (int_sign a) (int_sign b) (int_sign (a +ℤ b)))
 sign-add_z a b = adds_z a b (a +ℤ b) (sum_is_lem a b)
 
+-- the whole numbers are an ordered ring, up to equality itself
 pub int_ordered : IsOrdered int_operations int_sign (λ a b. a ≡ b)
 int_ordered = record {
   ring = int_ring;

@@ -1,5 +1,5 @@
 -- The order of an ordered ring: transitive, total, antisymmetric, kept by sums and by products with what is not minus.
-use Rattle.std.proofs.Common.{◌≡◌, ◌⊎◌, inl, inr, T, [], ◌∷◌, refl, sym, subst}
+use Rattle.std.proofs.Common.{◌≡◌, ◌⊎◌, inl, inr, T, [], ◌∷◌, refl, sym, ap, subst, ◌∙◌}
 use Rattle.qe_ring.specs.Ring.{Operations, difference}
 use Rattle.qe_ring.specs.Sign.{Sign, Minus, Zero, Plus, is_not_minus, IsNotMinus, is, opposite, ◌·◌, adds, IsSignOfSum}
 use Rattle.qe_ring.specs.Ordered.{IsOrdered, EqualBySign, AtMostBySign}
@@ -35,6 +35,7 @@ module _ {C : Type 0} (o : Operations C) (s : C → Sign) (E : C → C → Type 
   turned : (a b : C) → s (difference o a b) ≡ opposite (s (difference o b a))
   turned a b = same_sign o s E L (a ∷ b ∷ []) (var 0 ⊝ var 1) (⊖ (var 1 ⊝ var 0)) refl
 
+  -- the order is transitive, total and antisymmetric
   pub transitive : (a b c : C) → AtMostBySign o s a b → AtMostBySign o s b c → AtMostBySign o s a c
   transitive a b c p q =
       decide (any ∷ given ∷ any ∷ given ∷ any ∷ given ∷ []) Summed tt (s (difference o b a)) p (s (difference o c b)) q (s (difference o c a))
@@ -52,6 +53,7 @@ module _ {C : Type 0} (o : Operations C) (s : C → Sign) (E : C → C → Type 
   antisymmetric a b p q = is-eq (s (difference o a b)) Zero
       (decide (any ∷ given ∷ given ∷ []) Opposed tt (s (difference o a b)) q (subst (λ z. IsNotMinus z) (turned b a) p))
 
+  -- it is kept by sums, and by products with what is not minus
   pub kept_by_sum : (a b c : C) → AtMostBySign o s a b → AtMostBySign o s (o.add a c) (o.add b c)
   kept_by_sum a b c p = subst (λ z. IsNotMinus z)
       (same_sign o s E L (a ∷ b ∷ c ∷ []) (var 1 ⊝ var 0) (var 1 ⊕ var 2 ⊝ (var 0 ⊕ var 2)) refl) p
@@ -60,3 +62,18 @@ module _ {C : Type 0} (o : Operations C) (s : C → Sign) (E : C → C → Type 
   kept_by_product a b c hc p = subst (λ z. IsNotMinus z)
       (same_sign o s E L (a ∷ b ∷ c ∷ []) ((var 1 ⊝ var 0) ⊗ var 2) (var 1 ⊗ var 2 ⊝ var 0 ⊗ var 2) refl)
       (decide (any ∷ given ∷ any ∷ given ∷ []) Multiplied tt (s (difference o b a)) p (s c) hc)
+
+  -- at most is less or equal
+  pub less_or_equal : (a b : C) → AtMostBySign o s a b → s (difference o b a) ≡ Plus ⊎ EqualBySign o s a b
+  less_or_equal a b p = by_sign (s (difference o b a)) (s (difference o a b)) (turned a b) p
+    where
+      by_sign : (u v : Sign) → v ≡ opposite u → IsNotMinus u → u ≡ Plus ⊎ v ≡ Zero
+      by_sign Minus v e h = absurd h
+      by_sign Zero v e h = inr e
+      by_sign Plus v e h = inl refl
+
+  pub less_at_most : (a b : C) → s (difference o b a) ≡ Plus → AtMostBySign o s a b
+  less_at_most a b p = subst (λ z. IsNotMinus z) (sym p) tt
+
+  pub equal_at_most : (a b : C) → EqualBySign o s a b → AtMostBySign o s a b
+  equal_at_most a b p = subst (λ z. IsNotMinus z) (sym (turned b a ∙ ap opposite p)) tt

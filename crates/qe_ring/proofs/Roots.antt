@@ -22,7 +22,8 @@ module _ {C : Type 0} (o : Operations C) (s : C → Sign) (E : C → C → Type 
   -- two roots of one value are equal where neither is minus
   pub one_root : (u v : C) → IsNotMinus (s u) → IsNotMinus (s v) → EqualBySign o s (mul u u) (mul v v) → EqualBySign o s u v
   one_root u v hu hv h = pick_at o s E L (u ∷ v ∷ []) (var 0) (⊖ var 1)
-      ∙ is-eq (pick z (s u) (opposite (s v))) Zero (decide (any ∷ given ∷ any ∷ given ∷ any ∷ given ∷ []) Meets tt z (to_is z Zero (squares ∙ h)) (s u) hu (s v) hv)
+      ∙ is-eq (pick z (s u) (opposite (s v))) Zero (decide (any ∷ given ∷ any ∷ given ∷ any ∷ given ∷ []) Meets tt z (to_is z Zero (squares ∙ h))
+      (s u) hu (s v) hv)
     where
       z : Sign
       z = signs o s (u ∷ v ∷ []) (var 0 ⊗ var 0 ⊝ ⊖ var 1 ⊗ ⊖ var 1)

@@ -23,16 +23,18 @@ Twice a b = (adds a a b, λ _. is b a)
 abbrev Own_opposite : Claim (any ∷ given ∷ [])
 Own_opposite a = (is a (opposite a), λ _. is a Zero)
 
-self_opp : (a : Sign) → a ≡ opposite a → a ≡ Zero
-self_opp a h = is-eq a Zero (decide (any ∷ given ∷ []) Own_opposite tt a (subst (λ z. T (is a z)) h (is-same a)))
+self_opposite : (a : Sign) → a ≡ opposite a → a ≡ Zero
+self_opposite a h = is-eq a Zero (decide (any ∷ given ∷ []) Own_opposite tt a (subst (λ z. T (is a z)) h (is-same a)))
 
 module _ {C : Type 0} (o : Operations C) (s : C → Sign) (E : C → C → Type 0) (L : IsOrdered o s E) where
   open o use {zero, one, add, neg, mul}
   open L use {ring, sign-same, sign-one, sign-neg, sign-mul, sign-add}
 
+  -- the sign of zero
   pub sign-zero : s zero ≡ Zero
-  sign-zero = self_opp (s zero) (sign-same zero (neg zero) (solve o E ring [] nought (⊖ nought) refl) ∙ sign-neg zero)
+  sign-zero = self_opposite (s zero) (sign-same zero (neg zero) (solve o E ring [] nought (⊖ nought) refl) ∙ sign-neg zero)
 
+  -- the sign of a value is what `signs` reads off its expression
   pub signs_are : (point : List C) (e : Expression) → s (value o point e) ≡ signs o s point e
   signs_are point (var x) = refl
   signs_are point nought = sign-zero
@@ -51,8 +53,10 @@ module _ {C : Type 0} (o : Operations C) (s : C → Sign) (E : C → C → Type 
   law point a b c h =
       subst (λ u. T (adds (signs o s point a) (signs o s point b) u)) (same_sign point (a ⊕ b) c h)
       (subst (λ u. T (adds (signs o s point a) u (s (add (value o point a) (value o point b))))) (signs_are point b)
-      (subst (λ u. T (adds u (s (value o point b)) (s (add (value o point a) (value o point b))))) (signs_are point a) (sign-add (value o point a) (value o point b))))
+      (subst (λ u. T (adds u (s (value o point b)) (s (add (value o point a) (value o point b))))) (signs_are point a)
+      (sign-add (value o point a) (value o point b))))
 
+  -- a + a has the sign of a
   pub double : (a : C) → s (add a a) ≡ s a
   double a = is-eq (s (add a a)) (s a) (decide (any ∷ any ∷ given ∷ []) Twice tt (s a) (s (add a a)) (sign-add a a))
 
@@ -71,5 +75,6 @@ module _ {C : Type 0} (o : Operations C) (s : C → Sign) (E : C → C → Type 
       y = var 1
 
   -- the same, at expressions
-  pub pick_at : (point : List C) (u v : Expression) → s (add (value o point u) (value o point v)) ≡ pick (signs o s point (u ⊗ u ⊝ v ⊗ v)) (signs o s point u) (signs o s point v)
+  pub pick_at : (point : List C) (u v : Expression) → s (add (value o point u) (value o point v))
+      ≡ pick (signs o s point (u ⊗ u ⊝ v ⊗ v)) (signs o s point u) (signs o s point v)
   pick_at point u v = pick_is (value o point u) (value o point v) ∙ ap₂ (pick (signs o s point (u ⊗ u ⊝ v ⊗ v))) (signs_are point u) (signs_are point v)

@@ -8,7 +8,8 @@ same_list-eq : (xs ys : List ℕ) → T (same_list xs ys) → xs ≡ ys
 same_list-eq [] [] h = refl
 same_list-eq [] (y ∷ ys) h = absurd h
 same_list-eq (x ∷ xs) [] h = absurd h
-same_list-eq (x ∷ xs) (y ∷ ys) h = ap₂ ◌∷◌ (eqb→eq x y (and_left (eqb x y) (same_list xs ys) h)) (same_list-eq xs ys (and_right (eqb x y) (same_list xs ys) h))
+same_list-eq (x ∷ xs) (y ∷ ys) h = ap₂ ◌∷◌ (eqb→eq x y (and_left (eqb x y) (same_list xs ys) h))
+    (same_list-eq xs ys (and_right (eqb x y) (same_list xs ys) h))
   where
     and_left : (a b : Bool) → T (a && b) → T a
     and_left true b h = tt
@@ -93,7 +94,8 @@ module _ {C : Type 0} (o : Operations C) (E : C → C → Type 0) (R : IsRing o 
   neg-mul a b = mul-comm (neg a) b ▸ mul-neg b a ▸ neg₁ (mul-comm b a)
 
   swap_middle : (a b c d : C) → E (add (add a b) (add c d)) (add (add a c) (add b d))
-  swap_middle a b c d = add-assoc a b (add c d) ▸ add₂ (same a) (rev (add-assoc b c d) ▸ add₂ (add-comm b c) (same d) ▸ add-assoc c b d) ▸ rev (add-assoc a c (add b d))
+  swap_middle a b c d = add-assoc a b (add c d) ▸ add₂ (same a) (rev (add-assoc b c d) ▸ add₂ (add-comm b c) (same d) ▸ add-assoc c b d)
+      ▸ rev (add-assoc a c (add b d))
 
   neg-add : (a b : C) → E (neg (add a b)) (add (neg a) (neg b))
   neg-add a b = neg_unique (add (neg a) (neg b)) (add a b) (swap_middle (neg a) (neg b) a b ▸ add₂ (neg-add_self a) (neg-add_self b) ▸ add-zero nil)
@@ -124,7 +126,8 @@ module _ {C : Type 0} (o : Operations C) (E : C → C → Type 0) (R : IsRing o 
 
   pub of_nat-mul : (m n : ℕ) → E (of_nat o (m * n)) (mul (of_nat o m) (of_nat o n))
   of_nat-mul zero n = same_of_eq (ap (of_nat o) (zero-mul n)) ▸ rev (nil-mul (of_nat o n))
-  of_nat-mul (suc m) n = same_of_eq (ap (of_nat o) (suc-mul m n)) ▸ of_nat-add (m * n) n ▸ add₂ (of_nat-mul m n) (rev (one-mul (of_nat o n))) ▸ rev (add-mul (of_nat o m) one (of_nat o n))
+  of_nat-mul (suc m) n = same_of_eq (ap (of_nat o) (suc-mul m n)) ▸ of_nat-add (m * n) n ▸ add₂ (of_nat-mul m n) (rev (one-mul (of_nat o n)))
+      ▸ rev (add-mul (of_nat o m) one (of_nat o n))
 
   -- an integer is a difference of two naturals
   of_int-parts : (z : ℤ) → E (of_int o z) (add (of_nat o (up z)) (neg (of_nat o (down z))))
@@ -132,8 +135,10 @@ module _ {C : Type 0} (o : Operations C) (E : C → C → Type 0) (R : IsRing o 
   of_int-parts (negsuc n) = rev (nil-add (neg (of_nat o (suc n))))
 
   of_int-by : (z : ℤ) (m n : ℕ) → up z + n ≡ m + down z → E (of_int o z) (add (of_nat o m) (neg (of_nat o n)))
-  of_int-by z m n h = of_int-parts z ▸ cross (of_nat o (up z)) (of_nat o (down z)) (of_nat o m) (of_nat o n) (rev (of_nat-add (up z) n) ▸ same_of_eq (ap (of_nat o) h) ▸ of_nat-add m (down z))
+  of_int-by z m n h = of_int-parts z ▸ cross (of_nat o (up z)) (of_nat o (down z)) (of_nat o m) (of_nat o n) (rev (of_nat-add (up z) n)
+      ▸ same_of_eq (ap (of_nat o) h) ▸ of_nat-add m (down z))
 
+  -- they keep sums, products and negatives
   pub of_int-add : (a b : ℤ) → E (of_int o (a +ℤ b)) (add (of_int o a) (of_int o b))
   of_int-add a b = of_int-by (a +ℤ b) (up a + up b) (down a + down b) (omega (arith, sum_is_lem a b))
       ▸ add₂ (of_nat-add (up a) (up b)) (neg₁ (of_nat-add (down a) (down b)) ▸ neg-add (of_nat o (down a)) (of_nat o (down b)))
@@ -145,7 +150,8 @@ module _ {C : Type 0} (o : Operations C) (E : C → C → Type 0) (R : IsRing o 
   product_of_differences x y u v =
       add-mul x (neg y) (add u (neg v))
       ▸ add₂ (mul-add x u (neg v) ▸ add₂ (same (mul x u)) (mul-neg x v))
-      (neg-mul y (add u (neg v)) ▸ neg₁ (mul-add y u (neg v) ▸ add₂ (same (mul y u)) (mul-neg y v)) ▸ neg-add (mul y u) (neg (mul y v)) ▸ add₂ (same (neg (mul y u))) (neg-neg (mul y v)) ▸ add-comm (neg (mul y u)) (mul y v))
+      (neg-mul y (add u (neg v)) ▸ neg₁ (mul-add y u (neg v) ▸ add₂ (same (mul y u)) (mul-neg y v)) ▸ neg-add (mul y u) (neg (mul y v))
+      ▸ add₂ (same (neg (mul y u))) (neg-neg (mul y v)) ▸ add-comm (neg (mul y u)) (mul y v))
       ▸ swap_middle (mul x u) (neg (mul x v)) (mul y v) (neg (mul y u))
       ▸ add₂ (same (add (mul x u) (mul y v))) (rev (neg-add (mul x v) (mul y u)))
 
@@ -158,7 +164,8 @@ module _ {C : Type 0} (o : Operations C) (E : C → C → Type 0) (R : IsRing o 
 
   pub of_int-neg : (a : ℤ) → E (of_int o (neg_ℤ a)) (neg (of_int o a))
   of_int-neg a = of_int-by (neg_ℤ a) (down a) (up a) (ap₂ ◌+◌ (neg_is a).0 (sym (neg_is a).1))
-      ▸ rev (neg₁ (of_int-parts a) ▸ neg-add (of_nat o (up a)) (neg (of_nat o (down a))) ▸ add₂ (same (neg (of_nat o (up a)))) (neg-neg (of_nat o (down a))) ▸ add-comm (neg (of_nat o (up a))) (of_nat o (down a)))
+      ▸ rev (neg₁ (of_int-parts a) ▸ neg-add (of_nat o (up a)) (neg (of_nat o (down a)))
+      ▸ add₂ (same (neg (of_nat o (up a)))) (neg-neg (of_nat o (down a))) ▸ add-comm (neg (of_nat o (up a))) (of_nat o (down a)))
 
   -- the values of normal forms
   prod : List C → List ℕ → C
@@ -179,24 +186,30 @@ module _ {C : Type 0} (o : Operations C) (E : C → C → Type 0) (R : IsRing o 
   times_list-is : (point : List C) (m n : List ℕ) → E (prod point (times_list m n)) (mul (prod point m) (prod point n))
   unfolding prod
   times_list-is point [] n = rev (one-mul (prod point n))
-  times_list-is point (x ∷ xs) n = put_var-is point x (times_list xs n) ▸ mul₂ (same (entry nil point x)) (times_list-is point xs n) ▸ rev (mul-assoc (entry nil point x) (prod point xs) (prod point n))
+  times_list-is point (x ∷ xs) n = put_var-is point x (times_list xs n) ▸ mul₂ (same (entry nil point x)) (times_list-is point xs n)
+      ▸ rev (mul-assoc (entry nil point x) (prod point xs) (prod point n))
 
   kept-is : (point : List C) (c : ℤ) (m : List ℕ) (ts : List Term) → E (total point (kept c m ts)) (add (mul (of_int o c) (prod point m)) (total point ts))
   unfolding total
   kept-is point c m ts = cases (λ us. E (total point us) (add (mul (of_int o c) (prod point m)) (total point ts))) (is_zero c) ts (term c m ∷ ts)
-      (λ h. rev (add₂ (mul₂ (same_of_eq (ap (of_int o) (is_zero-eq c h))) (same (prod point m)) ▸ nil-mul (prod point m)) (same (total point ts)) ▸ nil-add (total point ts)))
+      (λ h. rev (add₂ (mul₂ (same_of_eq (ap (of_int o) (is_zero-eq c h))) (same (prod point m)) ▸ nil-mul (prod point m)) (same (total point ts))
+      ▸ nil-add (total point ts)))
       (same (add (mul (of_int o c) (prod point m)) (total point ts)))
 
   put-is : (point : List C) (c : ℤ) (m : List ℕ) (ts : List Term) → E (total point (put c m ts)) (add (mul (of_int o c) (prod point m)) (total point ts))
   unfolding total
   put-is point c m [] = kept-is point c m []
-  put-is point c m (term d n ∷ ts) = cases (λ us. E (total point us) goal) (same_list m n) (kept (c +ℤ d) n ts) (cond (less_list m n) (kept c m (term d n ∷ ts)) (term d n ∷ put c m ts))
-      (λ h. kept-is point (c +ℤ d) n ts ▸ add₂ (mul₂ (of_int-add c d) (same (prod point n)) ▸ add-mul (of_int o c) (of_int o d) (prod point n)) (same (total point ts))
+  put-is point c m (term d n ∷ ts) = cases (λ us. E (total point us) goal) (same_list m n) (kept (c +ℤ d) n ts)
+      (cond (less_list m n) (kept c m (term d n ∷ ts)) (term d n ∷ put c m ts))
+      (λ h. kept-is point (c +ℤ d) n ts ▸ add₂ (mul₂ (of_int-add c d) (same (prod point n)) ▸ add-mul (of_int o c) (of_int o d) (prod point n))
+      (same (total point ts))
       ▸ add-assoc (mul (of_int o c) (prod point n)) (mul (of_int o d) (prod point n)) (total point ts)
-      ▸ add₂ (mul₂ (same (of_int o c)) (same_of_eq (ap (prod point) (sym (same_list-eq m n h))))) (same (add (mul (of_int o d) (prod point n)) (total point ts))))
+      ▸ add₂ (mul₂ (same (of_int o c)) (same_of_eq (ap (prod point) (sym (same_list-eq m n h)))))
+      (same (add (mul (of_int o d) (prod point n)) (total point ts))))
       (cases (λ us. E (total point us) goal) (less_list m n) (kept c m (term d n ∷ ts)) (term d n ∷ put c m ts)
       (λ h. kept-is point c m (term d n ∷ ts))
-      (add₂ (same (mul (of_int o d) (prod point n))) (put-is point c m ts) ▸ past (mul (of_int o d) (prod point n)) (mul (of_int o c) (prod point m)) (total point ts)))
+      (add₂ (same (mul (of_int o d) (prod point n))) (put-is point c m ts)
+      ▸ past (mul (of_int o d) (prod point n)) (mul (of_int o c) (prod point m)) (total point ts)))
     where
       goal : C
       goal = add (mul (of_int o c) (prod point m)) (add (mul (of_int o d) (prod point n)) (total point ts))
@@ -204,12 +217,14 @@ module _ {C : Type 0} (o : Operations C) (E : C → C → Type 0) (R : IsRing o 
   plus-is : (point : List C) (ss ts : List Term) → E (total point (plus ss ts)) (add (total point ss) (total point ts))
   unfolding total
   plus-is point [] ts = rev (nil-add (total point ts))
-  plus-is point (term c m ∷ ss) ts = put-is point c m (plus ss ts) ▸ add₂ (same (mul (of_int o c) (prod point m))) (plus-is point ss ts) ▸ rev (add-assoc (mul (of_int o c) (prod point m)) (total point ss) (total point ts))
+  plus-is point (term c m ∷ ss) ts = put-is point c m (plus ss ts) ▸ add₂ (same (mul (of_int o c) (prod point m))) (plus-is point ss ts)
+      ▸ rev (add-assoc (mul (of_int o c) (prod point m)) (total point ss) (total point ts))
 
   minus-is : (point : List C) (ts : List Term) → E (total point (minus ts)) (neg (total point ts))
   unfolding total
   minus-is point [] = rev neg-nil
-  minus-is point (term c m ∷ ts) = add₂ (mul₂ (of_int-neg c) (same (prod point m)) ▸ neg-mul (of_int o c) (prod point m)) (minus-is point ts) ▸ rev (neg-add (mul (of_int o c) (prod point m)) (total point ts))
+  minus-is point (term c m ∷ ts) = add₂ (mul₂ (of_int-neg c) (same (prod point m)) ▸ neg-mul (of_int o c) (prod point m)) (minus-is point ts)
+      ▸ rev (neg-add (mul (of_int o c) (prod point m)) (total point ts))
 
   scale-is : (point : List C) (c : ℤ) (m : List ℕ) (ts : List Term) → E (total point (scale c m ts)) (mul (mul (of_int o c) (prod point m)) (total point ts))
   unfolding total
@@ -225,7 +240,8 @@ module _ {C : Type 0} (o : Operations C) (E : C → C → Type 0) (R : IsRing o 
   times-is : (point : List C) (ss ts : List Term) → E (total point (times ss ts)) (mul (total point ss) (total point ts))
   unfolding total
   times-is point [] ts = rev (nil-mul (total point ts))
-  times-is point (term c m ∷ ss) ts = plus-is point (scale c m ts) (times ss ts) ▸ add₂ (scale-is point c m ts) (times-is point ss ts) ▸ rev (add-mul (mul (of_int o c) (prod point m)) (total point ss) (total point ts))
+  times-is point (term c m ∷ ss) ts = plus-is point (scale c m ts) (times ss ts) ▸ add₂ (scale-is point c m ts) (times-is point ss ts)
+      ▸ rev (add-mul (mul (of_int o c) (prod point m)) (total point ss) (total point ts))
 
   one-times : (x : C) → E (mul (add nil one) x) x
   one-times x = mul₂ (nil-add one) (same x) ▸ one-mul x
@@ -245,5 +261,6 @@ module _ {C : Type 0} (o : Operations C) (E : C → C → Type 0) (R : IsRing o 
   unfolding total
   vanishes point e h = rev (normal-is point e) ▸ same_of_eq (ap (total point) h)
 
+  -- an identity of rings: where the difference has the empty normal form, by `refl`, the two sides have one value
   pub solve : (point : List C) (a b : Expression) → normal (a ⊝ b) ≡ [] → E (value o point a) (value o point b)
   solve point a b h = add_cancel (value o point a) (value o point b) (neg (value o point b)) (vanishes point (a ⊝ b) h ▸ rev (add-neg (value o point b)))

@@ -1,5 +1,5 @@
 -- What the proofs on pairs a + b*sqrt(r) ask of finitely many signs, by computing all cases. N(a, b) stands for a*a - b*b*r.
-use Rattle.std.proofs.Common.{◌≡◌, T, List, [], ◌∷◌, refl}
+use Rattle.std.proofs.Common.{◌≡◌, List, [], ◌∷◌, refl}
 use Rattle.qe_ring.specs.Sign.{Sign, Minus, Zero, Plus, is_not_minus, is_not_zero, is, opposite, ◌·◌, adds, pick}
 use Rattle.qe_ring.proofs.Finite.{Step, any, given, Claim, Holds, decide, is-eq}
 use Rattle.qe_tower.specs.Sign.{sign_of_root_sum}
@@ -88,7 +88,8 @@ reduce_holds = decide Reduce Reduce_claim tt
 -- both norms zero: r a b m, c d n, t = sign (b*b - d*d), e = sign (N(x) - N(y)), q = sign (a*a - c*c), g = sign (N(x) + N(y)),
 -- z = sign ((ac)^2 - (bdr)^2), j = twice sign (ac - bdr), h = sign N(x + y)
 abbrev pub Flat : List Step
-Flat = any ∷ given ∷ any ∷ any ∷ any ∷ given ∷ given ∷ any ∷ any ∷ any ∷ given ∷ given ∷ any ∷ given ∷ any ∷ given ∷ any ∷ given ∷ given ∷ any ∷ given ∷ any ∷ given ∷ any ∷ given ∷ any ∷ given ∷ []
+Flat = any ∷ given ∷ any ∷ any ∷ any ∷ given ∷ given ∷ any ∷ any ∷ any ∷ given ∷ given ∷ any ∷ given ∷ any ∷ given ∷ any ∷ given ∷ given ∷ any ∷ given
+    ∷ any ∷ given ∷ any ∷ given ∷ any ∷ given ∷ []
 
 abbrev pub Flat_claim : Claim Flat
 Flat_claim r = (
@@ -136,6 +137,7 @@ Flat_claim r = (
 pub flat_holds : Holds Flat Flat_claim
 flat_holds = decide Flat Flat_claim tt
 
+-- a pair whose second part has the sign zero
 pub table_zero : (a r m n : Sign) → sign_of_root_sum a Zero r m n ≡ a
 table_zero Minus r m n = refl
 table_zero Zero r m n = refl
@@ -147,4 +149,3 @@ Negated r a b m = is (pick m (opposite a) (opposite b · r)) (opposite (pick m a
 
 pub negated : (r a b m : Sign) → pick m (opposite a) (opposite b · r) ≡ opposite (pick m a (b · r))
 negated r a b m = is-eq (pick m (opposite a) (opposite b · r)) (opposite (pick m a (b · r))) (decide (any ∷ any ∷ any ∷ any ∷ []) Negated tt r a b m)
-

@@ -10,7 +10,7 @@ use Rattle.qe_ring.proofs.Signs.{signs_are, same_sign, double, sign-zero}
 use Rattle.qe_ring.proofs.Ints.{int_ordered}
 use Rattle.qe_ring.proofs.Equal.{weaken, by_ring, equal_ring, equal_ordered}
 use Rattle.qe_tower.specs.Fraction.{fraction_operations, fraction_sign}
-use Rattle.qe_tower.specs.Element.{Element, Tower, bare, over, pair_operations, operations}
+use Rattle.qe_tower.specs.Element.{Tower, bare, over, pair_operations, operations}
 use Rattle.qe_tower.specs.Sign.{sign_of_root_sum, pair_sign, sign, IsTower}
 use Rattle.qe_tower.proofs.Adjoin.{norm, EqualParts, norm_law, is_pick, pair_sign-same, adjoined}
 use Rattle.qe_tower.proofs.Towers.{Alike, ordered}
@@ -70,13 +70,15 @@ module _ {C : Type 0} (o : Operations C) (s : C → Sign) (E : C → C → Type 
   by_conjugate x n = (
     (mul x.0 n.0, neg (mul x.1 n.0)),
     parts_equal (po.mul x (mul x.0 n.0, neg (mul x.1 n.0))) (one, zero)
-        (solve_by o (EqualBySign o s) (equal_ring o s E L) (r ∷ x.0 ∷ x.1 ∷ n.0 ∷ []) (fact unit (Nx a₀ b₀ ⊗ m₀) unit ∷ []) (a₀ ⊗ (a₀ ⊗ m₀) ⊕ b₀ ⊗ ⊖ (b₀ ⊗ m₀) ⊗ r₀) unit (n.1, tt) refl)
+        (solve_by o (EqualBySign o s) (equal_ring o s E L) (r ∷ x.0 ∷ x.1 ∷ n.0 ∷ []) (fact unit (Nx a₀ b₀ ⊗ m₀) unit ∷ [])
+        (a₀ ⊗ (a₀ ⊗ m₀) ⊕ b₀ ⊗ ⊖ (b₀ ⊗ m₀) ⊗ r₀) unit (n.1, tt) refl)
         (by_ring o s E L (r ∷ x.0 ∷ x.1 ∷ n.0 ∷ []) (a₀ ⊗ ⊖ (b₀ ⊗ m₀) ⊕ b₀ ⊗ (a₀ ⊗ m₀)) nought refl),
   )
 
   not_zero_sum : (x : C × C) → T (is (s (norm o r x.0 x.1)) Zero) → IsNotZero (ps x) → IsNotZero (s (add x.0 x.0))
   not_zero_sum x hn hx = subst (λ t. IsNotZero t) (sym (double o s E L x.0))
-      (decide (any ∷ given ∷ any ∷ any ∷ any ∷ given ∷ given ∷ given ∷ []) Straight tt (s r) h (s x.0) (s x.1) (s (norm o r x.0 x.1)) (norm_law o s E L r h x) hn
+      (decide (any ∷ given ∷ any ∷ any ∷ any ∷ given ∷ given ∷ given ∷ []) Straight tt (s r) h (s x.0) (s x.1) (s (norm o r x.0 x.1))
+      (norm_law o s E L r h x) hn
       (subst (λ t. IsNotZero t) (is_pick o s E L r h x) hx))
 
   -- where the norm is zero: by the double of the first part
@@ -91,7 +93,8 @@ module _ {C : Type 0} (o : Operations C) (s : C → Sign) (E : C → C → Type 
 
       same_pair : ps (difference po (po.mul x (n.0, zero)) po.one) ≡ ps z
       same_pair = pair_sign-same o s (EqualBySign o s) (equal_ordered o s E L) r h (difference po (po.mul x (n.0, zero)) po.one) z (
-        solve_by o (EqualBySign o s) (equal_ring o s E L) point (fact unit ((a₀ ⊕ a₀) ⊗ m₀) unit ∷ []) (a₀ ⊗ m₀ ⊕ b₀ ⊗ nought ⊗ r₀ ⊕ ⊖ unit) (⊖ (a₀ ⊗ m₀)) (n.1, tt) refl,
+        solve_by o (EqualBySign o s) (equal_ring o s E L) point (fact unit ((a₀ ⊕ a₀) ⊗ m₀) unit ∷ []) (a₀ ⊗ m₀ ⊕ b₀ ⊗ nought ⊗ r₀ ⊕ ⊖ unit)
+            (⊖ (a₀ ⊗ m₀)) (n.1, tt) refl,
         by_ring o s E L point (a₀ ⊗ nought ⊕ b₀ ⊗ m₀ ⊕ ⊖ nought) (b₀ ⊗ m₀) refl,
       )
 
@@ -103,9 +106,11 @@ module _ {C : Type 0} (o : Operations C) (s : C → Sign) (E : C → C → Type 
           ap (λ t. pick t (s z.0) (s z.1 · s r)) (same_sign o s E L point (Nx (⊖ (a₀ ⊗ m₀)) (b₀ ⊗ m₀)) (m₀ ⊗ m₀ ⊗ Nx a₀ b₀) refl)
           ∙ ap₂ (pick sq) (signs_are o s E L point (⊖ (a₀ ⊗ m₀))) (ap (λ t. t · s r) (sign-mul x.1 n.0))
           ∙ is-eq (pick sq (opposite (s x.0 · s n.0)) (s x.1 · s n.0 · s r)) Zero
-          (decide (any ∷ given ∷ any ∷ any ∷ any ∷ given ∷ given ∷ given ∷ any ∷ []) Halved tt (s r) h (s x.0) (s x.1) (s (norm o r x.0 x.1)) (norm_law o s E L r h x) hn
+          (decide (any ∷ given ∷ any ∷ any ∷ any ∷ given ∷ given ∷ given ∷ any ∷ []) Halved tt (s r) h (s x.0) (s x.1) (s (norm o r x.0 x.1))
+          (norm_law o s E L r h x) hn
           (subst (λ t. IsNotZero t) (is_pick o s E L r h x) hx) (s n.0))
 
+  -- where the base has inverses, the pairs have them
   pub inverts : Inverts o s → Inverts po ps
   inverts inv x hx = by_zero (s (norm o r x.0 x.1))
       (λ hn. by_double x hn hx (inv (add x.0 x.0) (not_zero_sum x hn hx)))
@@ -117,19 +122,24 @@ module _ {C : Type 0} (o : Operations C) (s : C → Sign) (E : C → C → Type 
       (by_ring o s E L (r ∷ []) (nought ⊗ nought ⊕ unit ⊗ unit ⊗ r₀) r₀ refl)
       (by_ring o s E L (r ∷ []) (nought ⊗ unit ⊕ unit ⊗ nought) nought refl)
 
+  -- (0, 1) is not minus
   pub root_sign : IsNotMinus (ps (zero, one))
-  root_sign = subst (λ t. IsNotMinus ((sign_of_root_sum t (s one) (s r) (s (norm o r zero one)) (s (difference o (mul (mul one one) r) (mul zero zero)))))) (sym (sign-zero o s E L))
-      (subst (λ t. IsNotMinus ((sign_of_root_sum Zero t (s r) (s (norm o r zero one)) (s (difference o (mul (mul one one) r) (mul zero zero)))))) (sym sign-one) (by_radicand (s r) (s (norm o r zero one)) (s (difference o (mul (mul one one) r) (mul zero zero)))))
+  root_sign = subst (λ t. IsNotMinus
+      (sign_of_root_sum t (s one) (s r) (s (norm o r zero one)) (s (difference o (mul (mul one one) r) (mul zero zero))))) (sym (sign-zero o s E L))
+      (subst (λ t. IsNotMinus (sign_of_root_sum Zero t (s r) (s (norm o r zero one)) (s (difference o (mul (mul one one) r) (mul zero zero)))))
+      (sym sign-one) (by_radicand (s r) (s (norm o r zero one)) (s (difference o (mul (mul one one) r) (mul zero zero)))))
     where
       by_radicand : (a b c : Sign) → IsNotMinus (sign_of_root_sum Zero Plus a b c)
       by_radicand Minus b c = tt
       by_radicand Zero b c = tt
       by_radicand Plus b c = tt
 
+-- the inverse of p/q is q/p
 fraction_inverts : Inverts fraction_operations fraction_sign
 fraction_inverts x hx = go x.numerator x.denominator x.positive hx
   where
-    go : (p : ℤ) (q : ℕ) (h : 0 < q) → IsNotZero (int_sign p) → Inverse fraction_operations fraction_sign (record { numerator = p; denominator = q; positive = h })
+    go : (p : ℤ) (q : ℕ) (h : 0 < q) → IsNotZero (int_sign p)
+        → Inverse fraction_operations fraction_sign (record { numerator = p; denominator = q; positive = h })
     go (pos zero) q h k = absurd k
     go (pos (suc n)) q h k = (
       record { numerator = pos q; denominator = suc n; positive = Prim.Native.Nat.suc-le-suc Prim.Native.Nat.zero-le },
@@ -137,15 +147,11 @@ fraction_inverts x hx = go x.numerator x.denominator x.positive hx
     )
     go (negsuc n) q h k = (
       record { numerator = neg_ℤ (pos q); denominator = suc n; positive = Prim.Native.Nat.suc-le-suc Prim.Native.Nat.zero-le },
-      same_sign int_operations int_sign (λ a b. a ≡ b) int_ordered (pos (suc n) ∷ pos q ∷ []) (⊖ var 0 ⊗ ⊖ var 1 ⊗ unit ⊕ ⊖ unit ⊗ (var 1 ⊗ var 0)) nought refl,
+      same_sign int_operations int_sign (λ a b. a ≡ b) int_ordered (pos (suc n) ∷ pos q ∷ []) (⊖ var 0 ⊗ ⊖ var 1 ⊗ unit ⊕ ⊖ unit ⊗ (var 1 ⊗ var 0))
+          nought refl,
     )
 
 -- every element that is not zero has an inverse over the same tower
 pub inverse_over : {n : ℕ} (t : Tower n) → IsTower t → Inverts (operations t) (sign t)
 inverse_over bare h = fraction_inverts
 inverse_over (over {n = n} t r) h = inverts (operations t) (sign t) (Alike n) (ordered t h.0) r h.1 (inverse_over t h.0)
-
--- every element that is not negative has a square root over the tower with it as one radicand more
-pub root_over : {n : ℕ} (t : Tower n) → IsTower t → (x : Element n) → IsNotMinus (sign t x)
-    → (w : Element (suc n)) × IsNotMinus (sign (over t x) w) × EqualBySign (operations (over t x)) (sign (over t x)) ((operations (over t x)).mul w w) (x, (operations t).zero)
-root_over {n} t h x hx = (((operations t).zero, (operations t).one), root_sign (operations t) (sign t) (Alike n) (ordered t h) x hx, root_squared (operations t) (sign t) (Alike n) (ordered t h) x hx)

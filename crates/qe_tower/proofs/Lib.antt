@@ -7,4 +7,5 @@ pub mod Keeping
 pub mod Joined
 pub mod Readings
 pub mod ValidNumbers
+pub mod WholeNumbers
 pub mod Stated

@@ -1,9 +1,9 @@
 -- The laws in the form in which the contracts state them.
-use Rattle.std.proofs.Common.{◌≡◌, ℕ, refl}
+use Rattle.std.proofs.Common.{ℕ, refl}
 use Rattle.qe_ring.specs.Ring.{IsRing}
 use Rattle.qe_ring.specs.Ordered.{IsOrderedOn}
 use Rattle.qe_ring.proofs.Equal.{equal_ring}
-use Rattle.qe_ring.proofs.Order.{sum_in_words, transitive, total, antisymmetric, kept_by_sum, kept_by_product}
+use Rattle.qe_ring.proofs.Order.{sum_in_words, transitive, total, antisymmetric, kept_by_sum, kept_by_product, less_or_equal, less_at_most, equal_at_most}
 use Rattle.qe_tower.specs.Element.{Element, Tower, operations}
 use Rattle.qe_tower.specs.Sign.{sign, IsTower, EqualOver}
 use Rattle.qe_tower.specs.Number.{IsNumber, add, mul, sign_of, number_operations, Equal}
@@ -13,6 +13,7 @@ use Rattle.qe_tower.proofs.Joined.{ring_of, one_map, joined, lift_map}
 use Rattle.qe_tower.proofs.Readings.{Reads, reads-add, reads-mul, reads-equal, reads-self}
 use Rattle.qe_tower.proofs.ValidNumbers.{valid_operations, valid_sign, ValidEqual, valid_ordered}
 
+-- elements and numbers are commutative rings
 pub ring_laws : RingLaws
 ring_laws = record {
   over-tower = λ n t h. equal_ring (operations t) (sign t) (Alike n) (ordered t h);
@@ -55,6 +56,9 @@ numbers_ordered = record {
 
 order_over : {n : ℕ} (t : Tower n) → IsTower t → IsOrderOver t
 order_over {n} t h = record {
+  at-most = less_or_equal (operations t) (sign t) (Alike n) (ordered t h);
+  less = less_at_most (operations t) (sign t) (Alike n) (ordered t h);
+  equal = equal_at_most (operations t) (sign t) (Alike n) (ordered t h);
   transitive = transitive (operations t) (sign t) (Alike n) (ordered t h);
   total = total (operations t) (sign t) (Alike n) (ordered t h);
   antisymmetric = antisymmetric (operations t) (sign t) (Alike n) (ordered t h);
@@ -64,6 +68,9 @@ order_over {n} t h = record {
 
 order_of_numbers : IsOrderOfNumbers
 order_of_numbers = record {
+  at-most = λ x y p q. less_or_equal valid_operations valid_sign ValidEqual valid_ordered (x, p) (y, q);
+  less = λ x y p q. less_at_most valid_operations valid_sign ValidEqual valid_ordered (x, p) (y, q);
+  equal = λ x y p q. equal_at_most valid_operations valid_sign ValidEqual valid_ordered (x, p) (y, q);
   transitive = λ x y z p q k. transitive valid_operations valid_sign ValidEqual valid_ordered (x, p) (y, q) (z, k);
   total = λ x y p q. total valid_operations valid_sign ValidEqual valid_ordered (x, p) (y, q);
   antisymmetric = λ x y p q. antisymmetric valid_operations valid_sign ValidEqual valid_ordered (x, p) (y, q);
@@ -71,19 +78,26 @@ order_of_numbers = record {
   kept-by-product = λ x y z p q k. kept_by_product valid_operations valid_sign ValidEqual valid_ordered (x, p) (y, q) (z, k);
 }
 
+-- the order of elements and of numbers
 pub order_laws : OrderLaws
 order_laws = record { over-tower = λ n t h. order_over t h; of-numbers = order_of_numbers }
 
+-- the signs of sums
 pub sum_laws : SumLaws
 sum_laws = record {
   over-tower = λ n t h x y. sum_in_words (sign t x) (sign t y) (sign t ((operations t).add x y)) ((ordered t h).sign-add x y);
   of-numbers = λ x y p q. sum_in_words (sign_of x) (sign_of y) (sign_of (add x y)) (valid_ordered.sign-add (x, p) (y, q));
 }
 
+-- the signs of products
 pub product_laws : ProductLaws
 product_laws = record {
   over-tower = λ n t h x y. (ordered t h).sign-mul x y;
   of-numbers = λ x y p q. valid_ordered.sign-mul (x, p) (y, q);
+  one-over-tower = λ n t h. (ordered t h).sign-one;
+  one-of-numbers = refl;
+  negative-over-tower = λ n t h x. (ordered t h).sign-neg x;
+  negative-of-numbers = λ x p. valid_ordered.sign-neg (x, p);
 }
 
 -- numbers over one tower read there as their elements
@@ -111,6 +125,7 @@ module _ {n : ℕ} (t : Tower n) (h : IsTower t) (x y : Element n) where
       product : Element n
       product = (operations t).mul x y
 
+-- maps between towers, and equal numbers
 pub carry_laws : CarryLaws
 carry_laws = record {
   joined = λ n m t u p q. (joined t p u q).0;

@@ -12,6 +12,7 @@ abbrev pub Alike : (n : ℕ) → Element n → Element n → Type 0
 Alike zero = EqualBySign fraction_operations fraction_sign
 Alike (suc n) = EqualParts (Alike n)
 
+-- the elements over a tower are an ordered ring, by induction on its height
 pub ordered : {n : ℕ} (t : Tower n) → IsTower t → IsOrdered (operations t) (sign t) (Alike n)
 ordered bare h = fraction_ordered
 ordered (over {n = n} t r) h = adjoined (operations t) (sign t) (Alike n) (ordered t h.0) r h.1

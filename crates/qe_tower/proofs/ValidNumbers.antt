@@ -12,7 +12,7 @@ use Rattle.qe_tower.specs.Number.{Number, IsNumber, add, mul, neg, sign_of, whol
 use Rattle.qe_tower.specs.Laws.{number, InverseOf, RootOf}
 use Rattle.qe_tower.proofs.Towers.{Alike, ordered}
 use Rattle.qe_tower.proofs.Field.{root_squared, root_sign, inverse_over}
-use Rattle.qe_tower.proofs.Joined.{ring_of, by_hyp, sign_eq, raised, top_root, raised_map, joined}
+use Rattle.qe_tower.proofs.Joined.{ring_of, solve_over, equal_signs_over, raised, top_root, raised_map, joined}
 use Rattle.qe_tower.proofs.Readings.{Reads, reads-sign, reads-add, reads-mul, reads-neg, reads-zero, reads-one, reads-equal, equal-reads, reads-self, Common, common}
 
 -- a number with the proof that it is one
@@ -52,50 +52,60 @@ module _ (x y z t : ValidNumber) where
   reads-var (suc zero) = M.y_is
   reads-var (suc (suc zero)) = M.z_is
   reads-var (suc (suc (suc zero))) = M.t_is
-  reads-var (suc (suc (suc (suc n)))) = reads-zero W M.fine
+  reads-var (suc (suc (suc (suc n)))) = reads-zero W M.is-tower
 
   reads-nat : (n : ℕ) → Reads W (of_nat valid_operations n).0 (of_nat (operations W) n)
-  reads-nat zero = reads-zero W M.fine
-  reads-nat (suc n) = reads-add W M.fine (of_nat valid_operations n).0 valid_operations.one.0 (of_nat (operations W) n) (operations W).one (of_nat valid_operations n).1 tt (reads-nat n) (reads-one W M.fine)
+  reads-nat zero = reads-zero W M.is-tower
+  reads-nat (suc n) = reads-add W M.is-tower (of_nat valid_operations n).0 valid_operations.one.0 (of_nat (operations W) n) (operations W).one
+      (of_nat valid_operations n).1 tt (reads-nat n) (reads-one W M.is-tower)
 
   reads-int : (z : ℤ) → Reads W (of_int valid_operations z).0 (of_int (operations W) z)
   reads-int (pos n) = reads-nat n
-  reads-int (negsuc n) = reads-neg W M.fine (of_nat valid_operations (suc n)).0 (of_nat (operations W) (suc n)) (reads-nat (suc n))
+  reads-int (negsuc n) = reads-neg W M.is-tower (of_nat valid_operations (suc n)).0 (of_nat (operations W) (suc n)) (reads-nat (suc n))
 
   reads-value : (e : Expression) → Reads W (value valid_operations numbers e).0 (value (operations W) elements e)
   reads-value (var n) = reads-var n
-  reads-value nought = reads-zero W M.fine
-  reads-value unit = reads-one W M.fine
+  reads-value nought = reads-zero W M.is-tower
+  reads-value unit = reads-one W M.is-tower
   reads-value (constant z) = reads-int z
-  reads-value (e ⊕ f) = reads-add W M.fine (value valid_operations numbers e).0 (value valid_operations numbers f).0 (value (operations W) elements e) (value (operations W) elements f) (value valid_operations numbers e).1 (value valid_operations numbers f).1 (reads-value e) (reads-value f)
-  reads-value (⊖ e) = reads-neg W M.fine (value valid_operations numbers e).0 (value (operations W) elements e) (reads-value e)
-  reads-value (e ⊗ f) = reads-mul W M.fine (value valid_operations numbers e).0 (value valid_operations numbers f).0 (value (operations W) elements e) (value (operations W) elements f) (value valid_operations numbers e).1 (value valid_operations numbers f).1 (reads-value e) (reads-value f)
+  reads-value (e ⊕ f) = reads-add W M.is-tower (value valid_operations numbers e).0 (value valid_operations numbers f).0 (value (operations W) elements e)
+      (value (operations W) elements f) (value valid_operations numbers e).1 (value valid_operations numbers f).1 (reads-value e) (reads-value f)
+  reads-value (⊖ e) = reads-neg W M.is-tower (value valid_operations numbers e).0 (value (operations W) elements e) (reads-value e)
+  reads-value (e ⊗ f) = reads-mul W M.is-tower (value valid_operations numbers e).0 (value valid_operations numbers f).0 (value (operations W) elements e)
+      (value (operations W) elements f) (value valid_operations numbers e).1 (value valid_operations numbers f).1 (reads-value e) (reads-value f)
 
   -- numbers are equal where the ring laws say so
   law_by : (e f : Expression) → normal (e ⊝ f) ≡ [] → ValidEqual (value valid_operations numbers e) (value valid_operations numbers f)
-  law_by e f h = reads-equal W M.fine (value valid_operations numbers e).0 (value valid_operations numbers f).0 (value (operations W) elements e) (value (operations W) elements f) (value valid_operations numbers e).1 (value valid_operations numbers f).1 (reads-value e) (reads-value f)
-      (by_ring (operations W) (sign W) (Alike M.height) (ordered W M.fine) elements e f h)
+  law_by e f h = reads-equal W M.is-tower (value valid_operations numbers e).0 (value valid_operations numbers f).0 (value (operations W) elements e)
+      (value (operations W) elements f) (value valid_operations numbers e).1 (value valid_operations numbers f).1 (reads-value e) (reads-value f)
+      (by_ring (operations W) (sign W) (Alike M.height) (ordered W M.is-tower) elements e f h)
 
   -- and where that follows from two equations between them
-  law_from : (e f : Expression) → EqualOver W M.a M.b × EqualOver W M.c M.d → (p q : Expression) → normal (e ⊝ (f ⊕ pull (fact p (var 0) (var 1) ∷ fact q (var 2) (var 3) ∷ []))) ≡ [] → ValidEqual (value valid_operations numbers e) (value valid_operations numbers f)
-  law_from e f k p q h = reads-equal W M.fine (value valid_operations numbers e).0 (value valid_operations numbers f).0 (value (operations W) elements e) (value (operations W) elements f) (value valid_operations numbers e).1 (value valid_operations numbers f).1 (reads-value e) (reads-value f)
-      (by_hyp W M.fine elements (fact p (var 0) (var 1) ∷ fact q (var 2) (var 3) ∷ []) e f (k.0, (k.1, tt)) h)
+  law_from : (e f : Expression) → EqualOver W M.a M.b × EqualOver W M.c M.d → (p q : Expression)
+      → normal (e ⊝ (f ⊕ pull (fact p (var 0) (var 1) ∷ fact q (var 2) (var 3) ∷ []))) ≡ []
+      → ValidEqual (value valid_operations numbers e) (value valid_operations numbers f)
+  law_from e f k p q h = reads-equal W M.is-tower (value valid_operations numbers e).0 (value valid_operations numbers f).0
+      (value (operations W) elements e) (value (operations W) elements f) (value valid_operations numbers e).1 (value valid_operations numbers f).1
+      (reads-value e) (reads-value f)
+      (solve_over W M.is-tower elements (fact p (var 0) (var 1) ∷ fact q (var 2) (var 3) ∷ []) e f (k.0, (k.1, tt)) h)
 
   both_equal : ValidEqual x y → ValidEqual z t → EqualOver W M.a M.b × EqualOver W M.c M.d
-  both_equal p q = (equal-reads W M.fine x.0 y.0 M.a M.b x.1 y.1 M.x_is M.y_is p, equal-reads W M.fine z.0 t.0 M.c M.d z.1 t.1 M.z_is M.t_is q)
+  both_equal p q = (equal-reads W M.is-tower x.0 y.0 M.a M.b x.1 y.1 M.x_is M.y_is p, equal-reads W M.is-tower z.0 t.0 M.c M.d z.1 t.1 M.z_is M.t_is q)
 
   sum_signs : T (adds (valid_sign x) (valid_sign y) (valid_sign (valid_operations.add x y)))
-  sum_signs = subst (λ s. T (adds s (valid_sign y) (valid_sign (valid_operations.add x y)))) (reads-sign W M.fine x.0 M.a M.x_is)
-      (subst (λ s. T (adds (sign W M.a) s (valid_sign (valid_operations.add x y)))) (reads-sign W M.fine y.0 M.b M.y_is)
-      (subst (λ s. T (adds (sign W M.a) (sign W M.b) s)) (reads-sign W M.fine (add x.0 y.0) ((operations W).add M.a M.b) (reads-add W M.fine x.0 y.0 M.a M.b x.1 y.1 M.x_is M.y_is))
-      ((ordered W M.fine).sign-add M.a M.b)))
+  sum_signs = subst (λ s. T (adds s (valid_sign y) (valid_sign (valid_operations.add x y)))) (reads-sign W M.is-tower x.0 M.a M.x_is)
+      (subst (λ s. T (adds (sign W M.a) s (valid_sign (valid_operations.add x y)))) (reads-sign W M.is-tower y.0 M.b M.y_is)
+      (subst (λ s. T (adds (sign W M.a) (sign W M.b) s))
+      (reads-sign W M.is-tower (add x.0 y.0) ((operations W).add M.a M.b) (reads-add W M.is-tower x.0 y.0 M.a M.b x.1 y.1 M.x_is M.y_is))
+      ((ordered W M.is-tower).sign-add M.a M.b)))
 
   product_sign : valid_sign (valid_operations.mul x y) ≡ valid_sign x · valid_sign y
-  product_sign = sym (reads-sign W M.fine (mul x.0 y.0) ((operations W).mul M.a M.b) (reads-mul W M.fine x.0 y.0 M.a M.b x.1 y.1 M.x_is M.y_is))
-      ∙ (ordered W M.fine).sign-mul M.a M.b ∙ ap₂ ◌·◌ (reads-sign W M.fine x.0 M.a M.x_is) (reads-sign W M.fine y.0 M.b M.y_is)
+  product_sign = sym (reads-sign W M.is-tower (mul x.0 y.0) ((operations W).mul M.a M.b) (reads-mul W M.is-tower x.0 y.0 M.a M.b x.1 y.1 M.x_is M.y_is))
+      ∙ (ordered W M.is-tower).sign-mul M.a M.b ∙ ap₂ ◌·◌ (reads-sign W M.is-tower x.0 M.a M.x_is) (reads-sign W M.is-tower y.0 M.b M.y_is)
 
   equal_signs : ValidEqual x y → valid_sign x ≡ valid_sign y
-  equal_signs e = sym (reads-sign W M.fine x.0 M.a M.x_is) ∙ sign_eq W M.fine M.a M.b (equal-reads W M.fine x.0 y.0 M.a M.b x.1 y.1 M.x_is M.y_is e) ∙ reads-sign W M.fine y.0 M.b M.y_is
+  equal_signs e = sym (reads-sign W M.is-tower x.0 M.a M.x_is) ∙ equal_signs_over W M.is-tower M.a M.b (equal-reads W M.is-tower x.0 y.0 M.a M.b x.1 y.1 M.x_is M.y_is e)
+      ∙ reads-sign W M.is-tower y.0 M.b M.y_is
 
 abbrev x₀ : Expression
 x₀ = var 0
@@ -113,9 +123,9 @@ valid_same : (x : ValidNumber) → ValidEqual x x
 valid_same x = law_by x x x x x₀ x₀ refl
 
 valid_then : (x y z : ValidNumber) → ValidEqual x y → ValidEqual y z → ValidEqual x z
-valid_then x y z h k = reads-equal W₀ N.fine x.0 z.0 N.a N.d x.1 z.1 N.x_is N.t_is
-    (by_hyp W₀ N.fine (N.a ∷ N.b ∷ N.c ∷ N.d ∷ []) (fact unit x₀ x₁ ∷ fact unit x₁ x₂ ∷ fact unit x₂ x₃ ∷ []) x₀ x₃
-    (p.0, (equal-reads W₀ N.fine y.0 y.0 N.b N.c y.1 y.1 N.y_is N.z_is (valid_same y), (p.1, tt))) refl)
+valid_then x y z h k = reads-equal W₀ N.is-tower x.0 z.0 N.a N.d x.1 z.1 N.x_is N.t_is
+    (solve_over W₀ N.is-tower (N.a ∷ N.b ∷ N.c ∷ N.d ∷ []) (fact unit x₀ x₁ ∷ fact unit x₁ x₂ ∷ fact unit x₂ x₃ ∷ []) x₀ x₃
+    (p.0, (equal-reads W₀ N.is-tower y.0 y.0 N.b N.c y.1 y.1 N.y_is N.z_is (valid_same y), (p.1, tt))) refl)
   where
     N : Common x.0 y.0 y.0 z.0
     N = M x y y z
@@ -126,6 +136,7 @@ valid_then x y z h k = reads-equal W₀ N.fine x.0 z.0 N.a N.d x.1 z.1 N.x_is N.
     p : EqualOver N.tower N.a N.b × EqualOver N.tower N.c N.d
     p = both_equal x y y z h k
 
+-- the numbers are a ring
 valid_ring : IsRing valid_operations ValidEqual
 valid_ring = record {
   same = valid_same;
@@ -144,6 +155,7 @@ valid_ring = record {
   mul-add = λ x y z. law_by x y z z (x₀ ⊗ (x₁ ⊕ x₂)) (x₀ ⊗ x₁ ⊕ x₀ ⊗ x₂) refl;
 }
 
+-- and an ordered one: so `solve`, `law`, `pick_is` and the rest speak of numbers too
 pub valid_ordered : IsOrdered valid_operations valid_sign ValidEqual
 valid_ordered = record {
   ring = valid_ring;
@@ -153,6 +165,7 @@ valid_ordered = record {
   sign-mul = λ x y. product_sign x y y y;
   sign-add = λ x y. sum_signs x y y y;
 }
+
 -- every number that is not zero has an inverse over the same tower
 pub inverse_of : (x : Number) → IsNumber x → IsNotZero (sign_of x) → InverseOf x
 inverse_of x h hx = record {

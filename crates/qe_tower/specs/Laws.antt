@@ -1,10 +1,10 @@
 -- What the laws say of the elements over one tower, and of numbers.
 use Rattle.std.specs.Prelude.{◌≡◌, ◌⊎◌, ℕ, suc, pos}
 use Rattle.qe_ring.specs.Ring.{IsRing, IsRingOn, difference}
-use Rattle.qe_ring.specs.Sign.{Plus, IsNotMinus, IsNotZero, IsSignOfSum, ◌·◌}
+use Rattle.qe_ring.specs.Sign.{Plus, IsNotMinus, IsNotZero, opposite, IsSignOfSum, ◌·◌}
 use Rattle.qe_tower.specs.Element.{Element, Tower, over, operations}
-use Rattle.qe_tower.specs.Sign.{sign, IsTower, EqualOver}
-use Rattle.qe_tower.specs.Number.{more, lift, carry, join, Number, IsNumber, add, mul, neg, sign_of, whole_number, number_operations, Equal}
+use Rattle.qe_tower.specs.Sign.{sign, IsTower, EqualOver, LessOver}
+use Rattle.qe_tower.specs.Number.{lift, carry, join, Number, IsNumber, add, mul, neg, sign_of, whole_number, number_operations, Equal, Less}
 use Rattle.qe_tower.specs.Map.{IsMap}
 
 -- the elements over one tower are a commutative ring, and so are the numbers
@@ -19,21 +19,28 @@ AtMostOver t x y = IsNotMinus (sign t (difference (operations t) y x))
 abbrev pub AtMost : Number → Number → Type 0
 AtMost x y = IsNotMinus (sign_of (difference number_operations y x))
 
--- the order of the elements over one tower
+-- the order of the elements over one tower; at most is less or equal
 pub record IsOrderOver {n : ℕ} (t : Tower n) : Type 0 where
+  pub at-most : (x y : Element n) → AtMostOver t x y → LessOver t x y ⊎ EqualOver t x y
+  pub less : (x y : Element n) → LessOver t x y → AtMostOver t x y
+  pub equal : (x y : Element n) → EqualOver t x y → AtMostOver t x y
   pub transitive : (x y z : Element n) → AtMostOver t x y → AtMostOver t y z → AtMostOver t x z
   pub total : (x y : Element n) → AtMostOver t x y ⊎ AtMostOver t y x
   pub antisymmetric : (x y : Element n) → AtMostOver t x y → AtMostOver t y x → EqualOver t x y
   pub kept-by-sum : (x y z : Element n) → AtMostOver t x y → AtMostOver t ((operations t).add x z) ((operations t).add y z)
   pub kept-by-product : (x y z : Element n) → IsNotMinus (sign t z) → AtMostOver t x y → AtMostOver t ((operations t).mul x z) ((operations t).mul y z)
 
--- the order of the numbers
+-- the order of the numbers; at most is less or equal
 pub record IsOrderOfNumbers : Type 0 where
+  pub at-most : (x y : Number) → IsNumber x → IsNumber y → AtMost x y → Less x y ⊎ Equal x y
+  pub less : (x y : Number) → IsNumber x → IsNumber y → Less x y → AtMost x y
+  pub equal : (x y : Number) → IsNumber x → IsNumber y → Equal x y → AtMost x y
   pub transitive : (x y z : Number) → IsNumber x → IsNumber y → IsNumber z → AtMost x y → AtMost y z → AtMost x z
   pub total : (x y : Number) → IsNumber x → IsNumber y → AtMost x y ⊎ AtMost y x
   pub antisymmetric : (x y : Number) → IsNumber x → IsNumber y → AtMost x y → AtMost y x → Equal x y
   pub kept-by-sum : (x y z : Number) → IsNumber x → IsNumber y → IsNumber z → AtMost x y → AtMost (add x z) (add y z)
-  pub kept-by-product : (x y z : Number) → IsNumber x → IsNumber y → IsNumber z → IsNotMinus (sign_of z) → AtMost x y → AtMost (mul x z) (mul y z)
+  pub kept-by-product : (x y z : Number) → IsNumber x → IsNumber y → IsNumber z
+      → IsNotMinus (sign_of z) → AtMost x y → AtMost (mul x z) (mul y z)
 
 pub record OrderLaws : Type 0 where
   pub over-tower : (n : ℕ) (t : Tower n) → IsTower t → IsOrderOver t
@@ -44,10 +51,14 @@ pub record SumLaws : Type 0 where
   pub over-tower : (n : ℕ) (t : Tower n) → IsTower t → (x y : Element n) → IsSignOfSum (sign t x) (sign t y) (sign t ((operations t).add x y))
   pub of-numbers : (x y : Number) → IsNumber x → IsNumber y → IsSignOfSum (sign_of x) (sign_of y) (sign_of (add x y))
 
--- the sign of a product is the product of the signs
+-- the sign of a product is the product of the signs, that of one is plus, and that of a negative is the opposite
 pub record ProductLaws : Type 0 where
   pub over-tower : (n : ℕ) (t : Tower n) → IsTower t → (x y : Element n) → sign t ((operations t).mul x y) ≡ sign t x · sign t y
   pub of-numbers : (x y : Number) → IsNumber x → IsNumber y → sign_of (mul x y) ≡ sign_of x · sign_of y
+  pub one-over-tower : (n : ℕ) (t : Tower n) → IsTower t → sign t (operations t).one ≡ Plus
+  pub one-of-numbers : sign_of (whole_number (pos 1)) ≡ Plus
+  pub negative-over-tower : (n : ℕ) (t : Tower n) → IsTower t → (x : Element n) → sign t ((operations t).neg x) ≡ opposite (sign t x)
+  pub negative-of-numbers : (x : Number) → IsNumber x → sign_of (neg x) ≡ opposite (sign_of x)
 
 -- an element over a tower, as a number
 abbrev pub number : {n : ℕ} → Tower n → Element n → Number
@@ -66,7 +77,8 @@ pub record CarryLaws : Type 0 where
   pub equal-signs : (x y : Number) → IsNumber x → IsNumber y → Equal x y → sign_of x ≡ sign_of y
   pub equal-over-tower : (n : ℕ) (t : Tower n) → IsTower t → (x y : Element n) → EqualOver t x y → Equal (number t x) (number t y)
   pub sum-over-tower : (n : ℕ) (t : Tower n) → IsTower t → (x y : Element n) → Equal (add (number t x) (number t y)) (number t ((operations t).add x y))
-  pub product-over-tower : (n : ℕ) (t : Tower n) → IsTower t → (x y : Element n) → Equal (mul (number t x) (number t y)) (number t ((operations t).mul x y))
+  pub product-over-tower : (n : ℕ) (t : Tower n) → IsTower t → (x y : Element n)
+      → Equal (mul (number t x) (number t y)) (number t ((operations t).mul x y))
 
 -- a number over the tower of x that gives 1 with it
 pub record InverseOf (x : Number) : Type 0 where

@@ -17,7 +17,7 @@ pub fn sign_of_sum()
     ensures { SumLaws }
 {}
 
-/// The sign of a product is the product of the signs.
+/// The sign of a product is the product of the signs; one is positive, and a negative has the opposite sign.
 pub fn sign_of_product()
     ensures { ProductLaws }
 {}

@@ -1,5 +1,5 @@
 //! Towers of square roots over the rationals: elements, their signs, numbers and points.
-//! Knows no polynomials. The definitions stand in specs/, in the order Fraction, Element, Sign, Number, Point.
+//! Knows no polynomials. The definitions stand in specs/, in the order Fraction, Element, Sign, Number, Point; the laws in Laws.
 #![tactic(auto)]
 
 pub mod examples;
