@@ -18,7 +18,7 @@ use Rattle.qe_poly.specs.Polynomial.{Term, Polynomial, Group, IsPolynomial, with
 use Rattle.qe_poly.specs.Limits.{first_limit, limit_if, or_else, wide, magnitude_limit, product_limit}
 use Rattle.qe_poly.specs.Rows.{shown}
 use Rattle.qe_poly.specs.Tally.{Tally, empty_tally, tally_more, next_tally, enter_tally, leaves_range}
-use Rattle.qe_poly.specs.Collected.{product_row, has_high, fit, fitted_row, fitted, entered, limit_of, row_wide, pairs_wide, monomials_limit, tallied_limit, tallied_terms, collected_limit}
+use Rattle.qe_poly.specs.Collected.{product_row, has_high, fit, fitted_row, fitted, entered, limit_of, row_wide, pairs_wide, tallied_limit, tallied_terms, collected_limit}
 use Rattle.qe_poly.proofs.Order.{turn_total, turn_same}
 use Rattle.qe_poly.proofs.Sorted.{tied, under_keys, is_sorted-under_keys, new_value, find-under_keys}
 use Rattle.qe_poly.proofs.Gathered.{at, unless_none, is_sorted-enter, find-enter, is_sorted-gathered, find-gathered}

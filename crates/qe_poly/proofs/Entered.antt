@@ -1,12 +1,14 @@
 -- Terms entered one after another into groups with tallies.
-use Rattle.std.proofs.Common.{◌≡◌, sym, ap, subst, ◌∙◌, refl, ℕ, suc, ◌+◌, ◌<◌, List, [], ◌∷◌, ◌++◌, Some, None, map, length, take, drop, set, get_or, ℤ, arith}
+use Rattle.std.proofs.Common.{◌≡◌, T, sym, ap, subst, ◌∙◌, refl, ℕ, suc, ◌+◌, ◌<◌, List, [], ◌∷◌, ◌++◌, map, length, take, drop, set, get_or, ℤ, arith}
 use Rattle.std.proofs.lemmas.List.{drop_more, map-append, set_split}
 use Rattle.std.specs.List.{insert}
 use Rattle.std.specs.declared.cmp.Ordering.TheVariants.{Equal}
-use Rattle.std.specs.FinMap.Entries.{by_order}
+use Rattle.std.specs.FinMap.Entries.{by_order, is_sorted}
 use Rattle.qe_poly.specs.Monomial.{Monomial, in_turn}
-use Rattle.qe_poly.specs.Tally.{Tally, shown_group, tally_more, empty_tally, enter_tally, IsSplit, IsTied, IsAhead}
+use Rattle.qe_poly.specs.Tally.{Tally, shown_group, tally_more, next_tally, empty_tally, enter_tally, IsInOrder, IsSplit, IsTied, IsAhead}
+use Rattle.qe_poly.specs.Polynomial.{Term}
 use Rattle.qe_poly.specs.declared.tally.Group as kept_group
+use Rattle.qe_poly.proofs.Gathered.{is_sorted-enter}
 
 at_tied : (m : Monomial) (c : ℤ) (g : Monomial × Tally) (gs : List (Monomial × Tally)) → in_turn m g.0 ≡ Equal → enter_tally (m, c) (g ∷ gs) ≡ (g.0, tally_more g.1 c) ∷ gs
 at_tied m c g gs tie = ap (λ r. by_order r ((m, tally_more empty_tally c) ∷ g ∷ gs) ((g.0, tally_more g.1 c) ∷ gs) (g ∷ enter_tally (m, c) gs)) tie
@@ -40,3 +42,13 @@ pub entered_at : (m : Monomial) (c : ℤ) (lent groups : List kept_group.Group) 
 entered_at m c lent groups i g t same place is same_tally =
     let here : (i < length groups) × IsSplit m groups i × IsTied m (map shown_group (drop i groups)) = subst (λ gs. (i < length gs) × IsSplit m gs i × IsTied m (map shown_group (drop i gs))) same place in
     ap (λ u. map shown_group (set groups i (record { monomial = g.monomial; tally = u }))) same_tally ∙ set_at m c groups i g here.0 is here.1 here.2
+
+-- entering a term keeps the order
+pub order_entered : (t : Term) (old new : List kept_group.Group) → IsInOrder old → map shown_group new ≡ enter_tally t (map shown_group old) → IsInOrder new
+order_entered t old new order entered = subst (λ gs. T (is_sorted in_turn gs)) (sym entered) (is_sorted-enter next_tally t (map shown_group old) order)
+
+pub order_inserted : (m : Monomial) (c : ℤ) (lent groups : List kept_group.Group) (i : ℕ) (made : List kept_group.Group) (tally : Tally) → lent ≡ groups → IsSplit m lent i × IsAhead m (map shown_group (drop i lent))
+    → tally ≡ tally_more empty_tally c → made ≡ insert groups i (record { monomial = m; tally = tally }) → IsInOrder groups → IsInOrder made
+order_inserted m c lent groups i made tally same place same_tally is_made order =
+    let here : IsSplit m groups i × IsAhead m (map shown_group (drop i groups)) = subst (λ gs. IsSplit m gs i × IsAhead m (map shown_group (drop i gs))) same place in
+    order_entered (m, c) groups made order (ap (map shown_group) is_made ∙ entered_before m c groups i (record { monomial = m; tally = tally }) refl same_tally here.0 here.1)

@@ -6,6 +6,7 @@ pub mod MergedRows
 pub mod MergedSums
 pub mod Products
 pub mod Entered
+pub mod Places
 pub mod Collected
 pub mod CollectedProduct
 pub mod Parts

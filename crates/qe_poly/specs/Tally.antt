@@ -1,6 +1,7 @@
 -- What the code keeps of the coefficients that meet in a monomial, and the places of monomials among those in order.
-use Rattle.std.specs.Prelude.{ℕ, ◌-◌, ◌^◌, ◌≤◌, ◌<◌, ℤ, pos, ◌+ℤ◌, unsigned_abs, List, [], ◌∷◌, ◌++◌, Bool, cond, ltb, Option, Some, None, map, ◌≡◌, Result, Ok, Err, length, take, drop}
+use Rattle.std.specs.Prelude.{ℕ, ◌-◌, ◌^◌, ◌≤◌, ◌<◌, ℤ, pos, ◌+ℤ◌, unsigned_abs, List, [], ◌∷◌, ◌++◌, Bool, T, cond, ltb, Option, Some, None, map, ◌≡◌, Result, Ok, Err, length, take, drop}
 use Rattle.std.specs.declared.cmp.Ordering.TheVariants.{Less, Equal}
+use Rattle.std.specs.FinMap.Entries.{is_sorted}
 use Rattle.qe_coef.specs.declared.Op.TheVariants.{Add}
 use Rattle.qe_coef.specs.declared.Wide.{Wide}
 use Rattle.qe_poly.specs.declared.tally.Tally as kept
@@ -42,6 +43,10 @@ next_tally (Some tally) c = tally_more tally c
 -- tallies in order with one more term
 abbrev pub enter_tally : Term → List (Monomial × Tally) → List (Monomial × Tally)
 enter_tally = enter next_tally
+
+-- each monomial comes before the next
+abbrev pub IsInOrder : List kept_group.Group → Type 0
+IsInOrder groups = T (is_sorted in_turn (map shown_group groups))
 
 -- what is entered at the monomial leaves the groups before this place as they are
 abbrev pub IsSplit : Monomial → List kept_group.Group → ℕ → Type 0

@@ -247,4 +247,83 @@ mod tests {
         }
         Ok(())
     }
+
+    /// The sum of `1`, `x`, .. to the power before `count`.
+    fn powers(alloc: Global, var: Var, count: u16) -> Result<Poly, Fail> {
+        let mut sum = Poly::constant(alloc, Coef::zero())?;
+        for exponent in 0..count {
+            sum = sum.add(alloc, &Poly::power(alloc, var, exponent as u32)?)?;
+        }
+        Ok(sum)
+    }
+
+    #[test]
+    fn multiplies(rt: HostRuntime) -> Result<(), Fail> {
+        let alloc = rt.alloc();
+        let x = Poly::power(alloc, Var(0), 1)?;
+        let y = Poly::power(alloc, Var(1), 1)?;
+        let one = Poly::power(alloc, Var(0), 0)?;
+        assert_eq!(rt; one.as_constant(), Some(coef(1)));
+
+        // (x + 1)*(x - 1) = x^2 - 1
+        let product = x.add(alloc, &one)?.mul(alloc, &x.sub(alloc, &one)?)?;
+        let square = Poly::power(alloc, Var(0), 2)?;
+        assert!(rt; product == square.sub(alloc, &one)?);
+
+        // (x + y)^2 = x^2 + 2*x*y + y^2
+        let sum = x.add(alloc, &y)?;
+        let twice = Poly::constant(alloc, coef(2))?.mul(alloc, &x.mul(alloc, &y)?)?;
+        let squares = square.add(alloc, &Poly::power(alloc, Var(1), 2)?)?;
+        assert!(rt; sum.mul(alloc, &sum)? == squares.add(alloc, &twice)?);
+        Ok(())
+    }
+
+    #[test]
+    fn tells_the_limits_of_products(rt: HostRuntime) -> Result<(), Fail> {
+        let alloc = rt.alloc();
+        // 40,000 + 40,000 = 80,000 is over 65,535
+        let high = Poly::power(alloc, Var(0), 40000)?;
+        let exponent = Err(PolyStop::Limit(PolyLimit::Exponent));
+        assert_eq!(rt; number(high.mul(alloc, &high)), exponent);
+
+        // 65*65 = 4,225 monomials
+        let rows = powers(alloc, Var(0), 65)?;
+        let columns = powers(alloc, Var(1), 65)?;
+        let monomials = Err(PolyStop::Limit(PolyLimit::Monomials));
+        assert_eq!(rt; number(rows.mul(alloc, &columns)), monomials);
+
+        // 2*(2^127-1) is out of range
+        let most = Poly::constant(alloc, coef(MOST))?;
+        let two = Poly::constant(alloc, coef(2))?;
+        assert_eq!(rt; number(most.mul(alloc, &two)), wide(Op::Mul, MOST, 2));
+
+        // (k*a + k)*(k*a - k): at a meet k^2 and -k^2, and the magnitudes add to 2*k^2, just over 2^127-1
+        let k = Poly::constant(alloc, coef(13043817825332782212))?;
+        let a = k.mul(alloc, &Poly::power(alloc, Var(0), 1)?)?;
+        let product = a.add(alloc, &k)?.mul(alloc, &a.sub(alloc, &k)?);
+        let square = 170141183460469231722567801800623612944;
+        assert_eq!(rt; number(product), wide(Op::Add, square, square));
+        Ok(())
+    }
+
+    #[test]
+    fn tells_the_coefficients_in_a_variable(rt: HostRuntime) -> Result<(), Fail> {
+        let alloc = rt.alloc();
+        let x = Var(1);
+        let a = Poly::power(alloc, Var(0), 1)?;
+        let b = Poly::power(alloc, Var(2), 3)?;
+        let c = Poly::power(alloc, Var(3), 1)?;
+        // a*x^2 + b^3*x + c
+        let quadratic = a.mul(alloc, &Poly::power(alloc, x, 2)?)?;
+        let linear = b.mul(alloc, &Poly::power(alloc, x, 1)?)?;
+        let p = quadratic.add(alloc, &linear)?.add(alloc, &c)?;
+        for (var, degree) in [(0, 1), (1, 2), (2, 3), (3, 1), (4, 0)] {
+            assert_eq!(rt; p.degree_in(Var(var)), degree);
+        }
+        if p.degree_in(x) <= 2 {
+            let parts = p.coeffs_in(alloc, x)?;
+            assert!(rt; parts == [a, b, c]);
+        }
+        Ok(())
+    }
 }

@@ -1,14 +1,14 @@
 //! Products of ordered terms: the products of all pairs are collected by their monomials.
 
-ghost use Rattle.std.specs.Prelude.{◌≡◌, [], cond, map, MatchResult};
+ghost use Rattle.std.specs.Prelude.{◌≡◌, [], cond, map, IfOk, MatchResult};
 ghost use Rattle.qe_poly.specs.Polynomial.{products};
 ghost use Rattle.qe_poly.specs.Limits.{IsStop, or_else};
 ghost use Rattle.qe_poly.specs.Rows.{shown};
-ghost use Rattle.qe_poly.specs.Tally.{shown_group};
+ghost use Rattle.qe_poly.specs.Tally.{shown_group, IsInOrder};
 ghost use Rattle.qe_poly.specs.Collected.{product_row, has_high, exponent_limit, fitted_row, fitted, entered, limit_of, row_wide, pairs_wide, monomials_limit, tallied_limit, tallied_terms, collected_limit};
 
 use crate::limit::{MOST_MONOMIALS, PolyLimit, PolyStop};
-use crate::tally::{enter, Group};
+use crate::tally::{Group, enter};
 use crate::term::Term;
 use qe_coef::{Coef, Wide};
 use std::alloc::Global;
@@ -46,12 +46,14 @@ fn enter_row(
     term: &Term,
     right: &[Term],
 ) -> Result<Option<Wide>, PolyStop>
-    ensures { let t = shown term.now in
+    requires { IsInOrder groups.now.items }
+    ensures order { IfOk result (λ _. IsInOrder groups.new.items) }
+    ensures entered { let t = shown term.now in
         let q = map shown right.now in
         let limit = exponent_limit (product_row t q) in
         MatchResult result
         (λ wide. (limit ≡ None) × (limit_of wide ≡ or_else (limit_of first) (row_wide t q))
-            × (map shown_group groups.new.items ≡ entered (fitted_row t q) (map shown_group groups.old.items)))
+        × (map shown_group groups.new.items ≡ entered (fitted_row t q) (map shown_group groups.old.items)))
         (IsStop limit) }
 {
     let mut wide = first;

@@ -1,7 +1,7 @@
 //! Monomials in order, each with what is known of the coefficients that meet there.
 
-ghost use Rattle.std.specs.Prelude.{◌≡◌, map, MatchResult};
-ghost use Rattle.qe_poly.specs.Tally.{empty_tally, tally_more, shown_group, enter_tally, IsPlace};
+ghost use Rattle.std.specs.Prelude.{◌≡◌, map, IfOk, MatchResult};
+ghost use Rattle.qe_poly.specs.Tally.{empty_tally, tally_more, shown_group, enter_tally, IsInOrder, IsPlace};
 
 use crate::limit::PolyStop;
 use crate::monomial::Monomial;
@@ -60,22 +60,27 @@ pub struct Group {
 
 /// Where a monomial stands among groups in order, or else where it is to be put.
 fn place(groups: &[Group], monomial: &Monomial) -> Result<usize, usize>
+    requires { IsInOrder groups.now }
     ensures { IsPlace monomial.now groups.now result }
 {
-    let mut i = 0;
-    while i < groups.len() {
-        match groups[i].monomial.compare(monomial) {
-            Ordering::Less => return Err(i),
-            Ordering::Equal => return Ok(i),
-            Ordering::Greater => i += 1,
+    let mut low = 0;
+    let mut high = groups.len();
+    while low < high {
+        let middle = low + (high - low) / 2;
+        match groups[middle].monomial.compare(monomial) {
+            Ordering::Less => high = middle,
+            Ordering::Equal => return Ok(middle),
+            Ordering::Greater => low = middle + 1,
         }
     }
-    Err(i)
+    Err(low)
 }
 
 /// Enters one more term among groups in order.
 pub fn enter(groups: &mut Vec<Group>, monomial: Monomial, coef: Coef) -> Result<(), PolyStop>
-    ensures { MatchResult result
+    requires { IsInOrder groups.now.items }
+    ensures order { IfOk result (λ _. IsInOrder groups.new.items) }
+    ensures entered { MatchResult result
         (λ _. map shown_group groups.new.items ≡ enter_tally (monomial, coef) (map shown_group groups.old.items))
         (λ stop. stop ≡ PolyStop.OutOfMemory) }
 {

@@ -1,4 +1,4 @@
-use Rattle.std.proofs.Common.{◌≡◌, ◌∙◌, map, drop, [], ◌+◌}
+use Rattle.std.proofs.Common.{◌∙◌, map, drop, [], ◌+◌}
 use Rattle.qe_poly.specs.Polynomial.{products}
 use Rattle.qe_poly.specs.Rows.{shown}
 use Rattle.qe_poly.specs.Tally.{shown_group}
@@ -15,12 +15,13 @@ step c =
     let q = map shown c.args.right.now in
     collect_step c.args.left.now c.loop-term.term-index c.term-item.result q (map shown_group c.loop-term.groups.items) (map shown_group c.enter_row.new.groups.items) (entered (fitted p q) [])
     (limit_of c.loop-term.wide) (limit_of c.in_ok-wide.wide) (pairs_wide p q) (has_high (products p q)) c.loop-term-test.true c.term-item.is
-    c.in_ok-wide.ensures c.loop-term.invariant.high c.loop-term.invariant.first c.loop-term.invariant.groups
+    c.in_ok-wide.ensures.entered c.loop-term.invariant.high c.loop-term.invariant.first c.loop-term.invariant.groups
 
 pub loop-term-preserved : goal.loop-term-preserved
 loop-term-preserved c =
     let next = step (goal.at.loop-term-preserved c).In_ok-wide in
     record {
+      order = c.in_ok-wide.ensures.order;
       high = next.high_is;
       few = few_in c.enter_row.new.groups.items c.len.result (c.len.ensures ∙ c.enter_row.new.groups.ok.0) c.if-len-gt-MOST_MONOMIALS.false;
       first = next.first_is;

@@ -1,12 +1,14 @@
-use Rattle.std.proofs.Common.{◌≡◌, ◌-◌, ◌≤◌, ℤ, length, ◌++◌, map, take, drop}
-use Rattle.qe_poly.specs.Tally.{enter_tally, shown_group}
+use Rattle.std.proofs.Common.{◌-◌, ◌≤◌, length, map, drop}
+use Rattle.qe_poly.specs.Tally.{shown_group, IsSplit, IsAhead}
 use Rattle.qe_poly.proofs.tally.place.Given as goal
 
-abbrev pub invariant-loop-i : goal.invariant-loop-i
-invariant-loop-i state = record {
-  inside : state.i ≤ length state.groups;
-  rest : (c : ℤ) → map shown_group (take state.i state.groups) ++ enter_tally (state.monomial, c) (map shown_group (drop state.i state.groups)) ≡ enter_tally (state.monomial, c) (map shown_group state.groups);
+abbrev pub invariant-loop-low : goal.invariant-loop-low
+invariant-loop-low state = record {
+  in_turn : state.low ≤ state.high;
+  inside : state.high ≤ length state.groups;
+  split : IsSplit state.monomial state.groups state.low;
+  ahead : IsAhead state.monomial (map shown_group (drop state.high state.groups));
 }
 
-abbrev pub decreases-loop-i : goal.decreases-loop-i
-decreases-loop-i state = length state.groups - state.i
+abbrev pub decreases-loop-low : goal.decreases-loop-low
+decreases-loop-low state = state.high - state.low
