@@ -1,11 +1,10 @@
 -- The laws of values at points of numbers, from those of values in a ring.
-use Rattle.std.proofs.Common.{◌≡◌, refl, ap, ap₂, subst, ℕ, zero, suc, ◌≤◌, true, false, cond, eqb, List, [], ◌∷◌, Some, if◌then◌else◌, ℤ, pos, ◌+ℤ◌, ◌*ℤ◌, neg_ℤ, arith}
-use Rattle.std.proofs.lemmas.Int.{ints}
+use Rattle.std.proofs.Common.{◌≡◌, refl, ap, ap₂, subst, ℕ, zero, suc, ◌≤◌, true, false, cond, eqb, List, [], ◌∷◌, Some, if◌then◌else◌, ℤ}
 use Rattle.qe_ring.specs.Ring.{IsRing}
-use Rattle.qe_ring.specs.Sign.{int_sign}
 use Rattle.qe_tower.specs.Number.{Number, IsNumber, add, mul, neg, whole_number, number_operations, Equal}
 use Rattle.qe_tower.specs.Point.{Point, IsPoint, look_up, or_zero, number_at}
 use Rattle.qe_tower.proofs.ValidNumbers.{ValidNumber, valid_operations, ValidEqual, valid_ordered}
+use Rattle.qe_tower.proofs.WholeNumbers.{whole_sum, whole_product, whole_negative}
 use Rattle.qe_poly.specs.Monomial.{Monomial}
 use Rattle.qe_poly.specs.Polynomial.{Term, Polynomial, IsPolynomial, sum, negative, product}
 use Rattle.qe_poly.specs.Coefficients.{degree_in, coefficient_in}
@@ -21,20 +20,8 @@ use Rattle.qe_form.specs.Laws.{ValueOfSum, ValueOfNegative, ValueOfProduct, Valu
 abbrev pub valid_whole : ℤ → ValidNumber
 valid_whole z = (whole_number z, tt)
 
-less_itself : (z : ℤ) → z *ℤ pos 1 +ℤ neg_ℤ z *ℤ pos 1 ≡ pos 0
-less_itself z = omega (arith, ints)
-
-sum_less_sum : (a b : ℤ) → (a +ℤ b) *ℤ pos 1 +ℤ neg_ℤ (a *ℤ pos 1 +ℤ b *ℤ pos 1) *ℤ pos 1 ≡ pos 0
-sum_less_sum a b = omega (arith, ints)
-
 pub whole_numbers : IsWhole valid_operations ValidEqual valid_whole
-whole_numbers = record {
-  zero = refl;
-  one = refl;
-  add = λ a b. ap int_sign (sum_less_sum a b);
-  neg = λ a. ap int_sign (less_itself (neg_ℤ a));
-  mul = λ a b. ap int_sign (less_itself (a *ℤ b));
-}
+whole_numbers = record { zero = refl; one = refl; add = whole_sum; neg = whole_negative; mul = whole_product }
 
 abbrev R : IsRing valid_operations ValidEqual
 R = valid_ordered.ring
