@@ -1,7 +1,11 @@
--- The laws of truth and sameness, stated.
-use Rattle.std.specs.Prelude.{ℕ, true, false, ◌⊎◌}
-use Rattle.qe_tower.specs.Point.{Point, IsPoint}
+-- The laws of values, truth and sameness, stated.
+use Rattle.std.specs.Prelude.{ℕ, ℤ, Bool, true, false, ◌⊎◌, ◌↔◌, Option, Some, None}
+use Rattle.qe_tower.specs.Number.{Number, add, mul, neg, whole_number, Equal}
+use Rattle.qe_tower.specs.Point.{Point, IsPoint, look_up}
+use Rattle.qe_poly.specs.Polynomial.{Polynomial, sum, negative, product}
+use Rattle.qe_poly.specs.Value.{scaled}
 use Rattle.qe_form.specs.Formula.{Formula, Formulas, And, Or, Not, Implies, Iff, Ex, All}
+use Rattle.qe_form.specs.Value.{value}
 use Rattle.qe_form.specs.Truth.{Is}
 use Rattle.qe_form.specs.Same.{IsFree, HasNoQuantifier, Gives, Same, SameEach}
 
@@ -44,3 +48,33 @@ BothOrNeither f g p = (Is f true p × Is g true p) ⊎ (Is f false p × Is g fal
 -- where g has no quantifier, `Same f g` says that both are true or both are false
 abbrev pub SameIsLiteral : Type 0
 SameIsLiteral = (f g : Formula) → HasNoQuantifier g → Same f g → (p : Point) → IsPoint p → Gives p f → BothOrNeither f g p
+
+-- the value of a sum is the sum of the values
+abbrev pub ValueOfSum : Type 0
+ValueOfSum = (q r : Polynomial) (p : Point) → IsPoint p → Equal (value (sum q r) p) (add (value q p) (value r p))
+
+-- the value of a negative is the negative of the value
+abbrev pub ValueOfNegative : Type 0
+ValueOfNegative = (q : Polynomial) (p : Point) → IsPoint p → Equal (value (negative q) p) (neg (value q p))
+
+-- the value of a product is the product of the values
+abbrev pub ValueOfProduct : Type 0
+ValueOfProduct = (q r : Polynomial) (p : Point) → IsPoint p → Equal (value (product q r) p) (mul (value q p) (value r p))
+
+-- the value of a multiple is the multiple of the value
+abbrev pub ValueOfMultiple : Type 0
+ValueOfMultiple = (c : ℤ) (q : Polynomial) (p : Point) → IsPoint p → Equal (value (scaled c q) p) (mul (whole_number c) (value q p))
+
+-- neither is a number, or both are and they are equal
+abbrev pub SameNumber : Option Number → Option Number → Type 0
+SameNumber None None = Unit {0}
+SameNumber (Some v) (Some w) = Equal v w
+SameNumber _ _ = ⊥
+
+-- to each variable neither point gives a number, or both give it equal numbers
+abbrev pub SameNumbers : Point → Point → Type 0
+SameNumbers p q = (x : ℕ) → SameNumber (look_up p x) (look_up q x)
+
+-- a formula is true at one point where it is true at another with the same numbers, and false where it is false there
+abbrev pub EqualPoints : Type 0
+EqualPoints = (f : Formula) (p q : Point) → IsPoint p → IsPoint q → SameNumbers p q → (b : Bool) → Is f b p ↔ Is f b q

@@ -1,20 +1,18 @@
--- The value of a polynomial at a point.
-use Rattle.std.specs.Prelude.{ℕ, zero, suc, [], ◌∷◌, pos}
-use Rattle.qe_tower.specs.Number.{Number, add, mul, whole_number}
+-- The value of a polynomial at a point: its value in the ring of the numbers.
+use Rattle.std.specs.Prelude.{ℕ}
+use Rattle.qe_tower.specs.Number.{Number, whole_number, number_operations}
 use Rattle.qe_tower.specs.Point.{Point, number_at}
 use Rattle.qe_poly.specs.Monomial.{Monomial}
 use Rattle.qe_poly.specs.Polynomial.{Polynomial}
+use Rattle.qe_poly.specs.Value as ring
 
 abbrev pub power : Number → ℕ → Number
-power v zero = whole_number (pos 1)
-power v (suc n) = mul v (power v n)
+power v n = ring.power_of number_operations v n
 
 -- the product of the powers of the variables' numbers
 abbrev pub monomial_value : Monomial → Point → Number
-monomial_value [] p = whole_number (pos 1)
-monomial_value (a ∷ m) p = mul (power (number_at p a.var.0) a.exponent) (monomial_value m p)
+monomial_value m p = ring.monomial_value number_operations (number_at p) m
 
 -- the sum, over the terms, of the coefficient times the monomial's value
 abbrev pub value : Polynomial → Point → Number
-value [] p = whole_number (pos 0)
-value (t ∷ ts) p = add (mul (whole_number t.1) (monomial_value t.0 p)) (value ts p)
+value q p = ring.value number_operations whole_number (number_at p) q

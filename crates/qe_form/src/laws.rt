@@ -1,6 +1,6 @@
-//! The laws of truth. Each function does nothing: its clause is the law.
+//! The laws of values and of truth. Each function does nothing: its clause is the law.
 
-ghost use Rattle.qe_form.specs.Laws.{NeverBoth, Decided, Classical, SameIsPreorder, SameIsKept, SameIsLiteral};
+ghost use Rattle.qe_form.specs.Laws.{NeverBoth, Decided, Classical, SameIsPreorder, SameIsKept, SameIsLiteral, ValueOfSum, ValueOfNegative, ValueOfProduct, ValueOfMultiple, EqualPoints};
 
 /// No formula is both true and false at a point.
 pub fn never_both()
@@ -30,4 +30,29 @@ pub fn same_is_kept()
 /// Where the second formula has no quantifier, both are true or both are false.
 pub fn same_is_literal()
     ensures { SameIsLiteral }
+{}
+
+/// The value of a sum is the sum of the values, at every point.
+pub fn value_of_sum()
+    ensures { ValueOfSum }
+{}
+
+/// The value of a negative is the negative of the value, at every point.
+pub fn value_of_negative()
+    ensures { ValueOfNegative }
+{}
+
+/// The value of a product is the product of the values, at every point.
+pub fn value_of_product()
+    ensures { ValueOfProduct }
+{}
+
+/// The value of a polynomial times a whole number is that number times the value, at every point.
+pub fn value_of_multiple()
+    ensures { ValueOfMultiple }
+{}
+
+/// A formula is true at both, or false at both, of two points that give equal numbers to the same variables.
+pub fn equal_points()
+    ensures { EqualPoints }
 {}

@@ -13,3 +13,6 @@ pub mod Parts
 pub mod KeptTerms
 pub mod Constants
 pub mod Merging
+pub mod Values
+pub mod ProductValues
+pub mod QuadraticValues

@@ -1,6 +1,7 @@
 pub mod Monomial
 pub mod Polynomial
 pub mod Coefficients
+pub mod Value
 pub mod Limits
 pub mod Rows
 pub mod Tally
