@@ -15,7 +15,7 @@ use Rattle.qe_poly.proofs.Gathered.{is_sorted-gathered, Each-gathered}
 
 -- ---- two ways to say that terms are in turn
 
-below_from : (m : Monomial) (ts : List Term) → T (below_all in_turn m ts) → IsBelow m ts
+pub below_from : (m : Monomial) (ts : List Term) → T (below_all in_turn m ts) → IsBelow m ts
 below_from m [] below = tt
 below_from m (t ∷ ts) below = below_first m t ts below
 

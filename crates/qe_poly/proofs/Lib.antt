@@ -4,6 +4,7 @@ pub mod Gathered
 pub mod Canonical
 pub mod MergedRows
 pub mod MergedSums
+pub mod Parts
 pub mod KeptTerms
 pub mod Constants
 pub mod Merging

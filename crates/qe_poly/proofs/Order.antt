@@ -9,7 +9,7 @@ use Rattle.std.proofs.lemmas.Cmp.{lists_total}
 use Rattle.qe_poly.specs.declared.monomial.Power.{Power}
 use Rattle.qe_poly.specs.Monomial.{Monomial, power_cmp, in_turn}
 
-power_total : IsTotalOrder power_cmp
+pub power_total : IsTotalOrder power_cmp
 power_total = then_total (on_total (λ a. a.var.0) (back_total nat_cmp_total)) (on_total (λ a. a.exponent) nat_cmp_total)
 
 pub turn_total : IsTotalOrder in_turn

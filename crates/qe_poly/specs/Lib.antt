@@ -1,5 +1,6 @@
 pub mod Monomial
 pub mod Polynomial
+pub mod Coefficients
 pub mod Limits
 pub mod Rows
 pub mod Equal

@@ -1,14 +1,19 @@
 -- Monomials: variables with their positive exponents, in the order of the variables.
-use Rattle.std.specs.Prelude.{ℕ, ◌<◌, Bool, ltb, List, [], ◌∷◌}
+use Rattle.std.specs.Prelude.{ℕ, ◌<◌, Bool, cond, eqb, ltb, List, [], ◌∷◌}
 use Rattle.std.specs.List.{list_any}
 use Rattle.std.specs.declared.cmp.Ordering.{Ordering}
 use Rattle.std.specs.Ordering.{nat_cmp, on, then_cmp, flip_args}
 use Rattle.std.specs.Cmp.Lexicographic.{slice_cmp}
+use Rattle.qe_poly.specs.declared.monomial.Var.{Var}
 use Rattle.qe_poly.specs.declared.monomial.Power.{Power}
 
 -- the powers whose product it is; without any it is 1
 abbrev pub Monomial : Type 0
 Monomial = List Power
+
+-- a power of one variable, which is 1 for the exponent 0
+abbrev pub power : Var → ℕ → Monomial
+power x n = cond (eqb n 0) [] (record { var = x; exponent = n } ∷ [])
 
 -- the lower variable is greater, and for one variable the greater exponent
 abbrev pub power_cmp : Power → Power → Ordering

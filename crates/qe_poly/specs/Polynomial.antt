@@ -1,9 +1,10 @@
 -- Polynomials as lists of terms, from the greatest monomial to the least.
-use Rattle.std.specs.Prelude.{ℤ, pos, neg_ℤ, ◌+ℤ◌, List, [], ◌∷◌, ◌++◌, ◌≡◌, ◌≢◌, cond, map}
+use Rattle.std.specs.Prelude.{ℕ, ℤ, pos, neg_ℤ, ◌+ℤ◌, List, [], ◌∷◌, ◌++◌, ◌≡◌, ◌≢◌, cond, map}
 use Rattle.std.specs.Ordering.{int_eq, eq_by_cmp}
 use Rattle.std.specs.FinMap.Entries.{by_order}
 use Rattle.std.specs.declared.cmp.Ordering.TheVariants.{Less}
-use Rattle.qe_poly.specs.Monomial.{Monomial, monomial_cmp, in_turn, IsMonomial}
+use Rattle.qe_poly.specs.declared.monomial.Var.{Var}
+use Rattle.qe_poly.specs.Monomial.{Monomial, power, monomial_cmp, in_turn, IsMonomial}
 
 -- a monomial with its coefficient
 abbrev pub Term : Type 0
@@ -71,6 +72,10 @@ collected ts = totals (gathered ts)
 -- the polynomial that is a number: its one monomial is 1, and for zero it has none
 abbrev pub constant : ℤ → Polynomial
 constant c = term_unless_zero [] c []
+
+-- a power of one variable, which is the constant 1 for the exponent 0
+abbrev pub power_of : Var → ℕ → Polynomial
+power_of x n = (power x n, pos 1) ∷ []
 
 -- each coefficient with the other sign
 abbrev pub negative : Polynomial → Polynomial

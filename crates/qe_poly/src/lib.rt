@@ -4,6 +4,7 @@
 
 mod limit;
 mod monomial;
+mod part;
 mod poly;
 mod sum;
 mod term;

@@ -1,11 +1,12 @@
 //! Variables, their powers, and products of powers.
 
-ghost use Rattle.std.specs.Prelude.{◌≡◌, ◌↔◌, [], IsTrue, IfOk};
+ghost use Rattle.std.specs.Prelude.{◌≡◌, ◌≤◌, ◌↔◌, [], IsTrue, IfOk};
 ghost use Rattle.std.proofs.Common.{rules};
 ghost use Rattle.std.specs.Ordering.{as_partial_cmp};
 ghost use Rattle.std.specs.Cmp.{partial_equiv_from_equiv, partial_order_from_own_ties};
 ghost use Rattle.std.specs.Cmp.Rules.{comparing};
-ghost use Rattle.qe_poly.specs.Monomial.{monomial_cmp, power_cmp};
+ghost use Rattle.qe_poly.specs.Monomial.{monomial_cmp, power, power_cmp};
+ghost use Rattle.qe_poly.specs.Coefficients.{exponent_of, without};
 ghost use Rattle.qe_poly.specs.Equal.{monomial_eq, monomial_eq_equiv, monomial_fed, monomial_fed_alike};
 
 use std::alloc::{AllocError, Global};
@@ -74,6 +75,22 @@ impl Model for Monomial {
     ghost invariant = { λ m. IsMonomial m.powers.items × (is_high m.powers.items ≡ false) };
 }
 
+/// The powers without that of a variable.
+fn powers_without(alloc: Global, powers: &[Power], var: Var) -> Result<Vec<Power>, AllocError>
+    ensures { IfOk result (λ v. v.items ≡ without var.0 powers.now) }
+{
+    let mut kept = Vec::new(alloc);
+    for i in 0..powers.len() {
+        let power = powers[i];
+        if power.var == var {
+            kept.extend_from_slice(&powers[i + 1..])?;
+            return Ok(kept);
+        }
+        kept.push(power)?;
+    }
+    Ok(kept)
+}
+
 impl Monomial {
     /// The monomial 1. It takes no memory.
     pub fn one(alloc: Global) -> Monomial
@@ -82,6 +99,21 @@ impl Monomial {
         Monomial {
             powers: Vec::new(alloc),
         }
+    }
+
+    /// A power of one variable, which is 1 for the exponent 0.
+    pub fn power(alloc: Global, var: Var, exponent: u32) -> Result<Monomial, AllocError>
+        requires { exponent ≤ 65535 }
+        ensures { IfOk result (λ m. m ≡ power var exponent) }
+    {
+        let mut powers = Vec::new(alloc);
+        if exponent != 0 {
+            powers.push(Power {
+                var,
+                exponent: exponent as u16,
+            })?;
+        }
+        Ok(Monomial { powers })
     }
 
     /// Whether it is 1.
@@ -96,6 +128,26 @@ impl Monomial {
         ensures { IfOk result (λ m. m ≡ self.now) }
     {
         let powers = Vec::from_slice(alloc, &self.powers)?;
+        Ok(Monomial { powers })
+    }
+
+    /// The exponent of a variable, 0 where it does not occur.
+    pub fn exponent_of(&self, var: Var) -> u32
+        ensures { result ≡ exponent_of var.0 self.now }
+    {
+        for power in &self.powers {
+            if power.var == var {
+                return power.exponent as u32;
+            }
+        }
+        0
+    }
+
+    /// The monomial without its power of a variable.
+    pub fn without(&self, alloc: Global, var: Var) -> Result<Monomial, AllocError>
+        ensures { IfOk result (λ m. m ≡ without var.0 self.now) }
+    {
+        let powers = powers_without(alloc, &self.powers, var)?;
         Ok(Monomial { powers })
     }
 

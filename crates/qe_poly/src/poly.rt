@@ -1,19 +1,28 @@
 //! Polynomials and their operations.
 
-ghost use Rattle.std.specs.Prelude.{ℤ, ◌≡◌, ◌≢◌, IfOk, IfSome, IfNone};
+ghost use Rattle.std.specs.Prelude.{ℤ, pos, ◌≡◌, ◌≢◌, ◌≤◌, ◌∷◌, [], IfOk, IfSome, IfNone};
 ghost use Rattle.std.specs.Cmp.{partial_equiv_from_equiv};
 ghost use Rattle.qe_poly.specs.Polynomial as spec;
+ghost use Rattle.qe_poly.specs.Coefficients.{degree_in, coefficient_in};
 ghost use Rattle.qe_poly.specs.Limits.{IsAnswer, sum_limit};
 ghost use Rattle.qe_poly.specs.Equal.{poly_eq, poly_eq_equiv, poly_fed, poly_fed_alike};
 
 use crate::limit::PolyStop;
-use crate::monomial::Monomial;
+use crate::monomial::{Monomial, Var};
+use crate::part::part;
 use crate::sum::combine;
 use crate::term::Term;
 use qe_coef::{Coef, Op};
 use std::alloc::{AllocError, Global};
 use std::hash::{Hash, Hasher};
 use std::marker::Model;
+
+/// The coefficient 1.
+fn one() -> Coef
+    ensures { result ≡ pos 1 }
+{
+    Coef::of(1).unwrap_or(Coef::zero())
+}
 
 /// A polynomial, as the list of its terms from the greatest monomial to the least, with no coefficient 0.
 /// So polynomials are equal where their terms are.
@@ -46,6 +55,19 @@ impl Poly {
                 coef: value,
             })?;
         }
+        Ok(Poly { terms })
+    }
+
+    /// A power of one variable, which is the constant 1 for the exponent 0. The exponent is at most 65,535.
+    pub fn power(alloc: Global, var: Var, exponent: u32) -> Result<Poly, AllocError>
+        requires { exponent ≤ 65535 }
+        ensures { IfOk result (λ p. p ≡ spec.power_of var exponent) }
+    {
+        let mut terms = Vec::new(alloc);
+        terms.push(Term {
+            monomial: Monomial::power(alloc, var, exponent)?,
+            coef: one(),
+        })?;
         Ok(Poly { terms })
     }
 
@@ -92,6 +114,37 @@ impl Poly {
             })?;
         }
         Ok(Poly { terms })
+    }
+
+    /// The greatest exponent of a variable, 0 where it does not occur.
+    pub fn degree_in(&self, var: Var) -> u32
+        ensures { result ≡ degree_in var.0 self.now }
+    {
+        let mut degree = 0;
+        for term in &self.terms {
+            degree = degree.max(term.monomial.exponent_of(var));
+        }
+        degree
+    }
+
+    /// The coefficient of a power of a variable: the terms that have that power, without the variable.
+    fn coefficient_in(&self, alloc: Global, var: Var, exponent: u32) -> Result<Poly, AllocError>
+        ensures { IfOk result (λ p. p ≡ coefficient_in var.0 exponent self.now) }
+    {
+        let terms = part(alloc, &self.terms, var, exponent)?;
+        Ok(Poly { terms })
+    }
+
+    /// The coefficients of the second, the first and the zeroth power of a variable, whose degree is at most 2.
+    pub fn coeffs_in(&self, alloc: Global, var: Var) -> Result<[Poly; 3], AllocError>
+        requires { degree_in var.0 self.now ≤ 2 }
+        ensures { IfOk result (λ c. c ≡ coefficient_in var.0 2 self.now ∷ coefficient_in var.0 1 self.now
+            ∷ coefficient_in var.0 0 self.now ∷ []) }
+    {
+        let square = self.coefficient_in(alloc, var, 2)?;
+        let linear = self.coefficient_in(alloc, var, 1)?;
+        let free = self.coefficient_in(alloc, var, 0)?;
+        Ok([square, linear, free])
     }
 
     /// The number that the polynomial is, or `None` where it has a variable.
