@@ -156,7 +156,11 @@ IsPolynomial-coefficient_in x k (t ∷ ts) poly =
     let rest = IsPolynomial-coefficient_in x k ts poly.3 in
     let below = sorted_first t ts (sorted_from (t ∷ ts) poly) in
     elim (eqb (exponent_of x t.0) k) as (λ b. eqb (exponent_of x t.0) k ≡ b → IsPolynomial (cond b ((without x t.0, t.1) ∷ coefficient_in x k ts) (coefficient_in x k ts))) [
-      | true ↦ λ test. (poly.0, IsMonomial-without x t.0 poly.1,
-          below_from (without x t.0) (coefficient_in x k ts) (below-coefficient_in x k t.0 poly.1 (eqb-true (exponent_of x t.0) k test) ts (Each-monomial ts poly.3) below), rest)
+      | true ↦ λ test. (
+        poly.0,
+        IsMonomial-without x t.0 poly.1,
+        below_from (without x t.0) (coefficient_in x k ts) (below-coefficient_in x k t.0 poly.1 (eqb-true (exponent_of x t.0) k test) ts (Each-monomial ts poly.3) below),
+        rest,
+      )
       | false ↦ λ test. rest
     ] refl

@@ -10,6 +10,7 @@ mod sum;
 mod term;
 
 pub use limit::{PolyLimit, PolyStop};
-pub use monomial::{Power, Var};
+pub use monomial::{Monomial, Power, Var};
 pub use poly::Poly;
 pub use std::alloc::AllocError as OutOfMemory;
+pub use term::Term;
