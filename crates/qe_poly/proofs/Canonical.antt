@@ -8,7 +8,7 @@ use Rattle.std.specs.Ordering.{is_eq, eq_by_cmp, int_eq}
 use Rattle.std.specs.Cmp.{alike_right}
 use Rattle.std.specs.FinMap.Entries.{find, is_sorted, below_all, by_order, same_entries}
 use Rattle.qe_poly.specs.Monomial.{Monomial, in_turn, IsMonomial}
-use Rattle.qe_poly.specs.Polynomial.{Term, Polynomial, Group, IsBelow, IsPolynomial, enter, gathered, total, collected, coefficient, nonzero}
+use Rattle.qe_poly.specs.Polynomial.{Term, Polynomial, Group, IsBelow, IsPolynomial, enter, with_first, gathered, total, collected, coefficient, nonzero}
 use Rattle.qe_poly.proofs.Order.{turn_total, turn_same}
 use Rattle.qe_poly.proofs.Sorted.{Each, tied, below_first, below_rest, below_cons, below_sorted, sorted_first, sorted_rest, sorted_cons, under_keys, is_sorted-under_keys, Each-under_keys}
 use Rattle.qe_poly.proofs.Gathered.{is_sorted-gathered, Each-gathered}
@@ -77,10 +77,10 @@ IsPolynomial-collected ts each =
     IsPolynomial-nonzero (group_terms (gathered ts))
     (is_sorted-under_keys sum_of (gathered ts) (is_sorted-gathered ts)) (Each-under_keys sum_of IsMonomial (gathered ts) (Each-gathered ts each))
 
-coefficient-enter : (t : Term) (gs : List Group) (m : Monomial) → coefficient (group_terms (enter t gs)) m ≡ cond (eq_by_cmp in_turn m t.0) (t.1 +ℤ coefficient (group_terms gs) m) (coefficient (group_terms gs) m)
+coefficient-enter : (t : Term) (gs : List Group) (m : Monomial) → coefficient (group_terms (enter with_first t gs)) m ≡ cond (eq_by_cmp in_turn m t.0) (t.1 +ℤ coefficient (group_terms gs) m) (coefficient (group_terms gs) m)
 coefficient-enter t [] m = ap (λ c. cond (eq_by_cmp in_turn m t.0) (c +ℤ pos 0) (pos 0)) (+ℤ_idr t.1)
 coefficient-enter t (g ∷ gs) m =
-    elim (in_turn t.0 g.0) as (λ r. in_turn t.0 g.0 ≡ r → coefficient (group_terms (by_order r ((t.0, t.1 ∷ []) ∷ g ∷ gs) ((g.0, t.1 ∷ g.1) ∷ gs) (g ∷ enter t gs))) m
+    elim (in_turn t.0 g.0) as (λ r. in_turn t.0 g.0 ≡ r → coefficient (group_terms (by_order r ((t.0, t.1 ∷ []) ∷ g ∷ gs) ((g.0, t.1 ∷ g.1) ∷ gs) (g ∷ enter with_first t gs))) m
     ≡ cond (eq_by_cmp in_turn m t.0) (t.1 +ℤ coefficient (group_terms (g ∷ gs)) m) (coefficient (group_terms (g ∷ gs)) m)) [
       | Less ↦ λ before. ap (λ c. cond (eq_by_cmp in_turn m t.0) (c +ℤ coefficient (group_terms (g ∷ gs)) m) (coefficient (group_terms (g ∷ gs)) m)) (+ℤ_idr t.1)
       | Equal ↦ λ tie. joined (eq_by_cmp in_turn m g.0) t.1 (total g.1) (coefficient (group_terms gs) m)

@@ -4,6 +4,10 @@ pub mod Gathered
 pub mod Canonical
 pub mod MergedRows
 pub mod MergedSums
+pub mod Products
+pub mod Entered
+pub mod Collected
+pub mod CollectedProduct
 pub mod Parts
 pub mod KeptTerms
 pub mod Constants

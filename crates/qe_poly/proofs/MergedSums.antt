@@ -99,7 +99,7 @@ results-difference p q left right = same_polynomial (kept_results Sub (merged p 
 
 -- ---- limits
 
-first_limit-map : {A B : Type 0} (g : A → B) (f : B → Option PolyLimit) (xs : List A) → first_limit f (map g xs) ≡ first_limit (λ x. f (g x)) xs
+pub first_limit-map : {A B : Type 0} (g : A → B) (f : B → Option PolyLimit) (xs : List A) → first_limit f (map g xs) ≡ first_limit (λ x. f (g x)) xs
 first_limit-map g f [] = refl
 first_limit-map g f (x ∷ xs) = ap (or_else (f (g x))) (first_limit-map g f xs)
 

@@ -1,9 +1,10 @@
 -- Monomials: variables with their positive exponents, in the order of the variables.
-use Rattle.std.specs.Prelude.{ℕ, ◌<◌, Bool, cond, eqb, ltb, List, [], ◌∷◌}
+use Rattle.std.specs.Prelude.{ℕ, ◌+◌, ◌<◌, Bool, cond, eqb, ltb, List, [], ◌∷◌}
 use Rattle.std.specs.List.{list_any}
 use Rattle.std.specs.declared.cmp.Ordering.{Ordering}
 use Rattle.std.specs.Ordering.{nat_cmp, on, then_cmp, flip_args}
 use Rattle.std.specs.Cmp.Lexicographic.{slice_cmp}
+use Rattle.std.specs.FinMap.Entries.{by_order}
 use Rattle.qe_poly.specs.declared.monomial.Var.{Var}
 use Rattle.qe_poly.specs.declared.monomial.Power.{Power}
 
@@ -40,3 +41,14 @@ IsMonomial (a ∷ m) = (0 < a.exponent) × IsAbove a.var.0 m × IsMonomial m
 -- some exponent is over 65,535
 abbrev pub is_high : Monomial → Bool
 is_high m = list_any (λ a. ltb 65535 a.exponent) m
+
+-- a power times a monomial, before the product of `rest` with what is left of it
+abbrev pub times_power : Power → (Monomial → Monomial) → Monomial → Monomial
+times_power a rest [] = a ∷ rest []
+times_power a rest (b ∷ n) =
+    by_order (nat_cmp a.var.0 b.var.0) (a ∷ rest (b ∷ n)) (record { var = a.var; exponent = a.exponent + b.exponent } ∷ rest n) (b ∷ times_power a rest n)
+
+-- the product, in which the exponents of each variable are added, without bounds
+abbrev pub times : Monomial → Monomial → Monomial
+times [] n = n
+times (a ∷ m) n = times_power a (times m) n

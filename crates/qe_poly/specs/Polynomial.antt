@@ -1,10 +1,11 @@
 -- Polynomials as lists of terms, from the greatest monomial to the least.
-use Rattle.std.specs.Prelude.{ℕ, ℤ, pos, neg_ℤ, ◌+ℤ◌, List, [], ◌∷◌, ◌++◌, ◌≡◌, ◌≢◌, cond, map}
+use Rattle.std.specs.Prelude.{ℕ, ℤ, pos, neg_ℤ, ◌+ℤ◌, ◌*ℤ◌, List, [], ◌∷◌, ◌++◌, Option, Some, None, ◌≡◌, ◌≢◌, cond, map}
+use Rattle.std.specs.List.{flat_map}
 use Rattle.std.specs.Ordering.{int_eq, eq_by_cmp}
 use Rattle.std.specs.FinMap.Entries.{by_order}
 use Rattle.std.specs.declared.cmp.Ordering.TheVariants.{Less}
 use Rattle.qe_poly.specs.declared.monomial.Var.{Var}
-use Rattle.qe_poly.specs.Monomial.{Monomial, power, monomial_cmp, in_turn, IsMonomial}
+use Rattle.qe_poly.specs.Monomial.{Monomial, power, times, monomial_cmp, in_turn, IsMonomial}
 
 -- a monomial with its coefficient
 abbrev pub Term : Type 0
@@ -35,15 +36,20 @@ coefficient (t ∷ ts) m = cond (eq_by_cmp in_turn m t.0) (t.1 +ℤ coefficient 
 abbrev pub Group : Type 0
 Group = Monomial × List ℤ
 
--- groups in order with one more term, whose coefficient comes first in its group
-abbrev pub enter : Term → List Group → List Group
-enter t [] = (t.0, t.1 ∷ []) ∷ []
-enter t (g ∷ gs) = by_order (in_turn t.0 g.0) ((t.0, t.1 ∷ []) ∷ g ∷ gs) ((g.0, t.1 ∷ g.1) ∷ gs) (g ∷ enter t gs)
+-- Monomials in order, each with a value, and one more term: `more` gives the value at its monomial from the one there, if any, and the coefficient.
+abbrev pub enter : {V : Type 0} → (Option V → ℤ → V) → Term → List (Monomial × V) → List (Monomial × V)
+enter more t [] = (t.0, more None t.1) ∷ []
+enter more t (g ∷ gs) = by_order (in_turn t.0 g.0) ((t.0, more None t.1) ∷ g ∷ gs) ((g.0, more (Some g.1) t.1) ∷ gs) (g ∷ enter more t gs)
+
+-- a number before those that are there
+abbrev pub with_first : Option (List ℤ) → ℤ → List ℤ
+with_first None c = c ∷ []
+with_first (Some cs) c = c ∷ cs
 
 -- the monomials from the greatest to the least, each with its coefficients in the order of the terms
 abbrev pub gathered : List Term → List Group
 gathered [] = []
-gathered (t ∷ ts) = enter t (gathered ts)
+gathered (t ∷ ts) = enter with_first t (gathered ts)
 
 -- the sum of numbers
 abbrev pub total : List ℤ → ℤ
@@ -88,3 +94,19 @@ sum p q = collected (p ++ q)
 -- the sum with the negative
 abbrev pub difference : Polynomial → Polynomial → Polynomial
 difference p q = sum p (negative q)
+
+-- the pairs of a left and a right term: by the left terms in order, and for each of these by the right terms in order
+abbrev pub pairs : Polynomial → Polynomial → List (Term × Term)
+pairs p q = flat_map (λ t. map (λ u. (t, u)) q) p
+
+-- the product of two terms
+abbrev pub pair_product : Term × Term → Term
+pair_product pair = (times (pair.0).0 (pair.1).0, (pair.0).1 *ℤ (pair.1).1)
+
+-- the products of all pairs, in their order
+abbrev pub products : Polynomial → Polynomial → List Term
+products p q = map pair_product (pairs p q)
+
+-- the products of all pairs, added up
+abbrev pub product : Polynomial → Polynomial → Polynomial
+product p q = collected (products p q)

@@ -6,7 +6,9 @@ mod limit;
 mod monomial;
 mod part;
 mod poly;
+mod product;
 mod sum;
+mod tally;
 mod term;
 
 pub use limit::{PolyLimit, PolyStop};

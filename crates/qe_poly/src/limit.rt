@@ -3,7 +3,7 @@
 use qe_coef::Wide;
 use std::alloc::{AllocError, AllocFailed};
 
-/// The most monomials that a sum or a difference may have before zeros are left out.
+/// The most monomials that a sum, a difference or a product may have before zeros are left out.
 pub const MOST_MONOMIALS: usize = 4096;
 
 /// A limit that an operation met.

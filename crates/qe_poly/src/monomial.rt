@@ -1,11 +1,11 @@
 //! Variables, their powers, and products of powers.
 
-ghost use Rattle.std.specs.Prelude.{◌≡◌, ◌≤◌, ◌↔◌, [], IsTrue, IfOk};
+ghost use Rattle.std.specs.Prelude.{◌≡◌, ◌≤◌, ◌↔◌, [], true, false, IsTrue, IfOk, MatchOption};
 ghost use Rattle.std.proofs.Common.{rules};
 ghost use Rattle.std.specs.Ordering.{as_partial_cmp};
 ghost use Rattle.std.specs.Cmp.{partial_equiv_from_equiv, partial_order_from_own_ties};
 ghost use Rattle.std.specs.Cmp.Rules.{comparing};
-ghost use Rattle.qe_poly.specs.Monomial.{monomial_cmp, power, power_cmp};
+ghost use Rattle.qe_poly.specs.Monomial.{monomial_cmp, power, power_cmp, times, is_high};
 ghost use Rattle.qe_poly.specs.Coefficients.{exponent_of, without};
 ghost use Rattle.qe_poly.specs.Equal.{monomial_eq, monomial_eq_equiv, monomial_fed, monomial_fed_alike};
 
@@ -91,6 +91,76 @@ fn powers_without(alloc: Global, powers: &[Power], var: Var) -> Result<Vec<Power
     Ok(kept)
 }
 
+/// Whether the exponents of one variable add to more than 65,535.
+fn has_high_product(left: &[Power], right: &[Power]) -> bool
+    requires left_low { is_high left.now ≡ false }
+    requires right_low { is_high right.now ≡ false }
+    ensures { result ≡ is_high (times left.now right.now) }
+{
+    let mut i = 0;
+    let mut j = 0;
+    while i < left.len() && j < right.len() {
+        let a = left[i];
+        let b = right[j];
+        match a.var.0.cmp(&b.var.0) {
+            Ordering::Less => i += 1,
+            Ordering::Equal => {
+                if a.exponent.checked_add(b.exponent).is_none() {
+                    return true;
+                }
+                i += 1;
+                j += 1;
+            }
+            Ordering::Greater => j += 1,
+        }
+    }
+    false
+}
+
+/// The powers of a product, or `None` where an exponent would be over 65,535.
+fn powers_product(
+    alloc: Global,
+    left: &[Power],
+    right: &[Power],
+) -> Result<Option<Vec<Power>>, AllocError>
+    requires left_low { is_high left.now ≡ false }
+    requires right_low { is_high right.now ≡ false }
+    ensures { let product = times left.now right.now in
+        IfOk result (λ o. MatchOption o (is_high product ≡ true) (λ v. (v.items ≡ product) × (is_high product ≡ false))) }
+{
+    let mut powers = Vec::new(alloc);
+    let mut i = 0;
+    let mut j = 0;
+    while i < left.len() && j < right.len() {
+        let a = left[i];
+        let b = right[j];
+        match a.var.0.cmp(&b.var.0) {
+            Ordering::Less => {
+                powers.push(a)?;
+                i += 1;
+            }
+            Ordering::Equal => {
+                let Some(exponent) = a.exponent.checked_add(b.exponent) else {
+                    return Ok(None);
+                };
+                powers.push(Power {
+                    var: a.var,
+                    exponent,
+                })?;
+                i += 1;
+                j += 1;
+            }
+            Ordering::Greater => {
+                powers.push(b)?;
+                j += 1;
+            }
+        }
+    }
+    powers.extend_from_slice(&left[i..])?;
+    powers.extend_from_slice(&right[j..])?;
+    Ok(Some(powers))
+}
+
 impl Monomial {
     /// The monomial 1. It takes no memory.
     pub fn one(alloc: Global) -> Monomial
@@ -156,6 +226,24 @@ impl Monomial {
     {
         let powers = powers_without(alloc, &self.powers, var)?;
         Ok(Monomial { powers })
+    }
+
+    /// Whether the product has an exponent over 65,535.
+    pub fn has_high_product(&self, other: &Monomial) -> bool
+        ensures { result ≡ is_high (times self.now other.now) }
+    {
+        has_high_product(&self.powers, &other.powers)
+    }
+
+    /// The product, or `None` where an exponent would be over 65,535.
+    pub fn times(&self, alloc: Global, other: &Monomial) -> Result<Option<Monomial>, AllocError>
+        ensures { let product = times self.now other.now in
+            IfOk result (λ o. MatchOption o (is_high product ≡ true) (λ m. (m ≡ product) × (is_high product ≡ false))) }
+    {
+        match powers_product(alloc, &self.powers, &other.powers)? {
+            Some(powers) => Ok(Some(Monomial { powers })),
+            None => Ok(None),
+        }
     }
 
     /// The order of monomials: the lowest variable decides first, and the greater exponent is greater.

@@ -5,12 +5,13 @@ ghost use Rattle.qe_poly.specs.Rows.{shown};
 ghost use Rattle.std.specs.Cmp.{partial_equiv_from_equiv};
 ghost use Rattle.qe_poly.specs.Polynomial as spec;
 ghost use Rattle.qe_poly.specs.Coefficients.{degree_in, coefficient_in};
-ghost use Rattle.qe_poly.specs.Limits.{IsAnswer, sum_limit};
+ghost use Rattle.qe_poly.specs.Limits.{IsAnswer, sum_limit, product_limit};
 ghost use Rattle.qe_poly.specs.Equal.{poly_eq, poly_eq_equiv, poly_fed, poly_fed_alike};
 
 use crate::limit::PolyStop;
 use crate::monomial::{Monomial, Var};
 use crate::part::part;
+use crate::product::multiply;
 use crate::sum::combine;
 use crate::term::Term;
 use qe_coef::{Coef, Op};
@@ -100,6 +101,17 @@ impl Poly {
         ensures { IsAnswer (sum_limit Op.Sub self.now other.now) (spec.difference self.now other.now) result }
     {
         let terms = combine(alloc, &self.terms, &other.terms, Op::Sub)?;
+        Ok(Poly { terms })
+    }
+
+    /// The product. The limit is `Exponent` where the exponents of one variable in some pair of terms add to more than
+    /// 65,535, and else `Monomials` where the pairs have more than 4,096 different products. Else it is `Coefficient` at the
+    /// first pair whose coefficients' product is out of range, with the two coefficients, or at the greatest monomial
+    /// where the magnitudes that meet add to more than 2^127-1, with the sum before and the magnitude that was too much.
+    pub fn mul(&self, alloc: Global, other: &Poly) -> Result<Poly, PolyStop>
+        ensures { IsAnswer (product_limit self.now other.now) (spec.product self.now other.now) result }
+    {
+        let terms = multiply(alloc, &self.terms, &other.terms)?;
         Ok(Poly { terms })
     }
 

@@ -1,0 +1,11 @@
+use Rattle.std.proofs.Common.{◌≡◌, ◌∙◌, sym, ap, drop, []}
+use Rattle.std.proofs.lemmas.List.{drop_all}
+use Rattle.qe_poly.specs.Monomial.{times, is_high}
+use Rattle.qe_poly.proofs.Products.{times_nil}
+use Rattle.qe_poly.proofs.monomial.has_high_product.Goals as goal
+
+pub returns-else-j-right : goal.returns-else-j-right
+returns-else-j-right c =
+    let rest = drop c.loop-i.i c.args.left.now in
+    let none : drop c.loop-i.j c.args.right.now ≡ [] = drop_all c.loop-i.j c.args.right.now c.if-j-right.false in
+    sym (sym c.loop-i.invariant.rest ∙ (ap (λ n. is_high (times rest n)) none ∙ (ap is_high (times_nil rest) ∙ c.loop-i.invariant.left_low)))
