@@ -12,6 +12,7 @@ mod tally;
 mod term;
 
 pub use limit::{PolyLimit, PolyStop};
-pub use monomial::{Power, Var};
+pub use monomial::{Monomial, Power, Var};
 pub use poly::Poly;
 pub use std::alloc::AllocError as OutOfMemory;
+pub use term::Term;

@@ -186,6 +186,13 @@ impl Monomial {
         Ok(Monomial { powers })
     }
 
+    /// The powers, in the order of their variables.
+    pub fn powers(&self) -> &[Power]
+        ensures { result.now ≡ self.now }
+    {
+        self.powers.as_slice()
+    }
+
     /// Whether it is 1.
     pub fn is_one(&self) -> bool
         ensures { IsTrue result ↔ (self.now ≡ []) }

@@ -1,6 +1,7 @@
 //! Polynomials and their operations.
 
-ghost use Rattle.std.specs.Prelude.{ℤ, pos, ◌≡◌, ◌≢◌, ◌≤◌, ◌∷◌, [], IfOk, IfSome, IfNone};
+ghost use Rattle.std.specs.Prelude.{ℤ, pos, ◌≡◌, ◌≢◌, ◌≤◌, ◌∷◌, [], IfOk, IfSome, IfNone, map};
+ghost use Rattle.qe_poly.specs.Rows.{shown};
 ghost use Rattle.std.specs.Cmp.{partial_equiv_from_equiv};
 ghost use Rattle.qe_poly.specs.Polynomial as spec;
 ghost use Rattle.qe_poly.specs.Coefficients.{degree_in, coefficient_in};
@@ -157,6 +158,13 @@ impl Poly {
         let linear = self.coefficient_in(alloc, var, 1)?;
         let free = self.coefficient_in(alloc, var, 0)?;
         Ok([square, linear, free])
+    }
+
+    /// The terms, from the greatest monomial to the least.
+    pub fn terms(&self) -> &[Term]
+        ensures { map shown result.now ≡ self.now }
+    {
+        self.terms.as_slice()
     }
 
     /// The number that the polynomial is, or `None` where it has a variable.
