@@ -4,3 +4,9 @@ pub mod Products
 pub mod Reach
 pub mod Letters
 pub mod Factored
+pub mod AtRoot
+pub mod SignAt
+pub mod Atoms
+pub mod Between
+pub mod Values
+pub mod Meaning
