@@ -1,11 +1,11 @@
 -- The sign of a polynomial at the value of a root of another: by A + B*sqrt(r); and it is zero at its own roots.
-use Rattle.std.proofs.Common.{◌≡◌, T, pos, List, [], ◌∷◌, refl, sym, ap, subst, ◌∙◌}
+use Rattle.std.proofs.Common.{◌≡◌, pos, [], ◌∷◌, refl, sym, ap, subst, ◌∙◌}
 use Rattle.qe_ring.specs.Ring.{Operations}
 use Rattle.qe_ring.specs.Expression.{Expression, var, nought, unit, constant, of_int, ◌⊕◌, ⊖◌, ◌⊗◌, ◌⊝◌}
 use Rattle.qe_ring.specs.Sign.{Sign, Zero, Plus, is_not_zero, IsNotZero, is, ◌·◌, pick}
 use Rattle.qe_ring.specs.Ordered.{EqualBySign}
 use Rattle.qe_ring.proofs.Finite.{any, given, Claim, decide, is-eq, to_is}
-use Rattle.qe_ring.proofs.Hypotheses.{Given, fact}
+use Rattle.qe_ring.proofs.Hypotheses.{fact}
 use Rattle.qe_ring.proofs.Signs.{signs_are}
 use Rattle.qe_ring.proofs.Roots.{sign_at_root}
 use Rattle.qe_line.specs.Field.{IsEuclideanField}

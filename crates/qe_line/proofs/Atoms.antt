@@ -1,5 +1,5 @@
 -- Polynomials with the signs that are allowed: where one is allowed at x, how far down it is, and at which place.
-use Rattle.std.proofs.Common.{Bool, ◌&&◌, true, false, T, List, [], ◌∷◌, sym, subst}
+use Rattle.std.proofs.Common.{Bool, ◌&&◌, true, false, T, sym, subst}
 use Rattle.qe_ring.specs.Ring.{Operations}
 use Rattle.qe_ring.specs.Sign.{Sign, Minus, Zero, Plus}
 use Rattle.qe_line.specs.Field.{IsEuclideanField}

@@ -4,7 +4,7 @@ use Rattle.qe_ring.specs.Ring.{Operations, difference}
 use Rattle.qe_ring.specs.Expression.{Expression, var, nought, unit, constant, of_int, ◌⊕◌, ⊖◌, ◌⊗◌, ◌⊝◌}
 use Rattle.qe_ring.specs.Sign.{Sign, Minus, Zero, Plus, is_not_zero, IsNotMinus, IsNotZero, is, opposite, ◌·◌, adds}
 use Rattle.qe_ring.specs.Ordered.{EqualBySign}
-use Rattle.qe_ring.proofs.Finite.{any, given, Step, Claim, decide, is-eq, to_is, by_zero}
+use Rattle.qe_ring.proofs.Finite.{any, given, Claim, decide, is-eq, to_is, by_zero}
 use Rattle.qe_ring.proofs.Hypotheses.{fact}
 use Rattle.qe_line.specs.Field.{IsEuclideanField}
 use Rattle.qe_line.specs.Place.{below, above}
@@ -244,8 +244,8 @@ module _ {C : Type 0} {o : Operations C} {s : C → Sign} (F : IsEuclideanField 
     pub factored : Factored a b c
     factored = by_zero (s a)
         (λ ha. by_zero (s b)
-          (λ hb. constant_sign (is-eq (s a) Zero ha) (is-eq (s b) Zero hb))
-          (λ hb. one_root (is-eq (s a) Zero ha) hb))
+        (λ hb. constant_sign (is-eq (s a) Zero ha) (is-eq (s b) Zero hb))
+        (λ hb. one_root (is-eq (s a) Zero ha) hb))
         (λ ha. by_sign (s (discriminant o a b c)) (no_root ha) (two_roots ha))
       where
         by_sign : {X : Type 0} (d : Sign) → (T (is d Minus) → X) → (IsNotMinus d → X) → X

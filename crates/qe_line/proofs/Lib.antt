@@ -10,3 +10,5 @@ pub mod Atoms
 pub mod Between
 pub mod Values
 pub mod Meaning
+pub mod Complete
+pub mod Stated

@@ -73,8 +73,14 @@ module _ {C : Type 0} {o : Operations C} {s : C → Sign} (F : IsEuclideanField 
   one_less v = subst (λ z. IsPlus z) (sym (same F (v ∷ []) (var 0 ⊝ (var 0 ⊝ unit)) unit refl)) tt
 
   half : (m : C) × (EqualBySign o s (mul (add one one) m) one × s m ≡ Plus)
-  half = (i.0, (i.1, ap (λ z. z · s i.0) (sym (one_and_one F)) ∙ sym (ordered.sign-mul (add one one) i.0)
-      ∙ ordered.sign-same (mul (add one one) i.0) one i.1 ∙ ordered.sign-one))
+  half = (
+    i.0,
+    (
+      i.1,
+      ap (λ z. z · s i.0) (sym (one_and_one F)) ∙ sym (ordered.sign-mul (add one one) i.0)
+          ∙ ordered.sign-same (mul (add one one) i.0) one i.1 ∙ ordered.sign-one,
+    ),
+  )
     where
       i : (m : C) × EqualBySign o s (mul (add one one) m) one
       i = inverts (add one one) (subst (λ z. IsNotZero z) (sym (one_and_one F)) tt)

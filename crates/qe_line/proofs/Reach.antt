@@ -6,7 +6,7 @@ use Rattle.qe_ring.specs.Sign.{Sign, Minus, Zero, Plus, is_not_minus, IsNotMinus
 use Rattle.qe_ring.specs.Ordered.{AtMostBySign}
 use Rattle.qe_ring.proofs.Finite.{Step, any, given, Claim, decide}
 use Rattle.qe_line.specs.Field.{IsEuclideanField}
-use Rattle.qe_line.specs.Place.{Place, below, at, above, IsPlus, LessBySign, IsFrom, Eventually}
+use Rattle.qe_line.specs.Place.{Place, below, at, above, IsPlus, IsFrom, Eventually}
 use Rattle.qe_line.proofs.Field.{law}
 use Rattle.qe_line.proofs.Places.{There, most_less, less_most, most_most, weak, itself, either}
 use Rattle.qe_line.proofs.Products.{Each, product}

@@ -7,7 +7,7 @@ use Rattle.qe_ring.specs.Ordered.{EqualBySign}
 use Rattle.qe_ring.proofs.Finite.{any, given, Claim, decide}
 use Rattle.qe_ring.proofs.Hypotheses.{fact}
 use Rattle.qe_line.specs.Field.{IsEuclideanField}
-use Rattle.qe_line.specs.Place.{above, IsPlus, LessBySign, HoldsJustAbove}
+use Rattle.qe_line.specs.Place.{above, IsPlus, HoldsJustAbove}
 use Rattle.qe_line.specs.Quadratic.{IsRootValue}
 use Rattle.qe_line.proofs.Field.{same, equal_by}
 use Rattle.qe_line.proofs.Places.{There}
@@ -54,8 +54,14 @@ module _ {C : Type 0} {o : Operations C} {s : C → Sign} (F : IsEuclideanField 
 
   -- what holds just above v holds up to some distance
   pub by_distance : (v : C) (P : C → Type 0) → There o s (above v) P → HoldsJustAbove o s v P
-  by_distance v P h = (difference o h.is.0 v, (h.is.1.0, λ u k l. h.is.1.1 u k (subst (λ z. IsPlus z)
-      (same F (u ∷ v ∷ h.is.0 ∷ []) (var 1 ⊕ (var 2 ⊝ var 1) ⊝ var 0) (var 2 ⊝ var 0) refl) l)))
+  by_distance v P h = (
+    difference o h.is.0 v,
+    (
+      h.is.1.0,
+      λ u k l. h.is.1.1 u k (subst (λ z. IsPlus z)
+          (same F (u ∷ v ∷ h.is.0 ∷ []) (var 1 ⊕ (var 2 ⊝ var 1) ⊝ var 0) (var 2 ⊝ var 0) refl) l),
+    ),
+  )
 
   -- and the other way
   pub by_end : (v : C) (P : C → Type 0) → HoldsJustAbove o s v P → There o s (above v) P

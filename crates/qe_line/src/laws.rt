@@ -1,13 +1,11 @@
-//! What holds over every ordered field with square roots.
-//! Nothing here runs.
+//! What holds on a line over every ordered field with square roots. Each function does nothing: its clause is the law.
 
-ghost use Rattle.std.specs.Prelude.{◌≡◌};
 ghost use Rattle.qe_ring.specs.Ring.{Operations};
 ghost use Rattle.qe_ring.specs.Sign.{Sign};
 ghost use Rattle.qe_line.specs.Field.{IsEuclideanField};
-ghost use Rattle.qe_line.specs.Laws.{Trivial};
+ghost use Rattle.qe_line.specs.Laws.{KeepsItsSign, SignAtRoot, SignJustAbove, SignFarBelow, Complete, CompleteByKind};
 
-/// A carrier with the operations and the signs of an ordered field in which all that is not negative has a root.
+/// An ordered field in which all that is not negative has a square root: the values, the operations and the signs.
 pub trait Line {
     ghost carrier: { Type 0 };
 
@@ -18,7 +16,32 @@ pub trait Line {
     ghost field: { IsEuclideanField operations sign_of };
 }
 
-/// Trivial.
-pub fn trivial<L: Line>()
-    ensures { Trivial L.operations L.sign_of }
+/// A polynomial of degree two at most has one sign at two values, or a root between them.
+pub fn keeps_its_sign<L: Line>()
+    ensures { KeepsItsSign L.operations L.sign_of }
+{}
+
+/// The sign of a polynomial of degree two at most at the value of a root.
+pub fn sign_at_root<L: Line>()
+    ensures { SignAtRoot L.operations L.sign_of }
+{}
+
+/// The sign of a polynomial of degree two at most just above a value.
+pub fn sign_just_above<L: Line>()
+    ensures { SignJustAbove L.operations L.sign_of }
+{}
+
+/// The sign of a polynomial of degree two at most below some bound.
+pub fn sign_far_below<L: Line>()
+    ensures { SignFarBelow L.operations L.sign_of }
+{}
+
+/// What is asked of the signs of finitely many polynomials is so at some value exactly where it is so at a test point.
+pub fn complete<L: Line>()
+    ensures { Complete L.operations L.sign_of }
+{}
+
+/// The same for one condition on each polynomial, with fewer test points.
+pub fn complete_by_kind<L: Line>()
+    ensures { CompleteByKind L.operations L.sign_of }
 {}
