@@ -71,8 +71,10 @@ module _ {C : Type 0} {o : Operations C} {s : C → Sign} (F : IsEuclideanField 
       (subst (λ z. IsNotZero z) (ordered.sign-mul (of_int o (pos 2)) a ∙ ap (λ k. k · s a) (two_plus F)) h)
 
   -- 4*a times the polynomial is zero
-  own_zero : (a b c v : C) → IsNotZero (s (mul (of_int o (pos 2)) a)) → s (of_int o (pos 4)) · (s a · s (quadratic o a b c v)) ≡ Zero → s (quadratic o a b c v) ≡ Zero
-  own_zero a b c v h e = is-eq (s (quadratic o a b c v)) Zero (decide (any ∷ given ∷ any ∷ given ∷ []) Own tt (s a) (not_zero_half a h) (s (quadratic o a b c v))
+  own_zero : (a b c v : C) → IsNotZero (s (mul (of_int o (pos 2)) a)) → s (of_int o (pos 4)) · (s a · s (quadratic o a b c v)) ≡ Zero
+      → s (quadratic o a b c v) ≡ Zero
+  own_zero a b c v h e = is-eq (s (quadratic o a b c v)) Zero
+      (decide (any ∷ given ∷ any ∷ given ∷ []) Own tt (s a) (not_zero_half a h) (s (quadratic o a b c v))
       (to_is (Plus · (s a · s (quadratic o a b c v))) Zero (ap (λ k. k · (s a · s (quadratic o a b c v))) (sym (four_plus F)) ∙ e)))
 
   -- a polynomial is zero at its root

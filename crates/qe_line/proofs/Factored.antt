@@ -31,7 +31,10 @@ Two_roots a = (is_not_zero a, λ _ f x y. (is (Plus · (a · f)) (Plus · a · x
 abbrev Two_above : Claim (any ∷ given ∷ any ∷ any ∷ any ∷ given ∷ [])
 Two_above a = (
   is_not_zero a,
-  λ _ x y z. (adds (Plus · a · x) (Plus · a · y) (Plus · z), λ _. is (sign_after x · (sign_after y · a)) (first_sign (x · (y · a)) (first_sign z a))),
+  λ _ x y z. (
+    adds (Plus · a · x) (Plus · a · y) (Plus · z),
+    λ _. is (sign_after x · (sign_after y · a)) (first_sign (x · (y · a)) (first_sign z a)),
+  ),
 )
 
 abbrev First_not_zero : Claim (any ∷ given ∷ any ∷ [])
@@ -162,7 +165,8 @@ module _ {C : Type 0} {o : Operations C} {s : C → Sign} (F : IsEuclideanField 
           factors = at_all;
           just_above = λ v. is-eq (sign_after (s (difference o v r)) · (sign_after (s (difference o v q)) · s a))
               (first_sign (s (difference o v r) · (s (difference o v q) · s a)) (first_sign (s (slope o a b v)) (s a)))
-              (decide (any ∷ given ∷ any ∷ any ∷ any ∷ given ∷ []) Two_above tt (s a) ha (s (difference o v r)) (s (difference o v q)) (s (slope o a b v)) (halves v))
+              (decide (any ∷ given ∷ any ∷ any ∷ any ∷ given ∷ []) Two_above tt (s a) ha
+              (s (difference o v r)) (s (difference o v q)) (s (slope o a b v)) (halves v))
               ∙ sym (ap (λ z. first_sign z (first_sign (s (slope o a b v)) (s a))) (at_all v));
           far_below = is-eq (opposite (opposite (s a))) (first_sign (s a) (first_sign (opposite (s b)) (s c)))
               (decide (any ∷ given ∷ any ∷ []) Turned_twice tt (s a) ha (first_sign (opposite (s b)) (s c)));
@@ -226,7 +230,8 @@ module _ {C : Type 0} {o : Operations C} {s : C → Sign} (F : IsEuclideanField 
         split u = subst (λ k. Plus · (s a · s (quadratic o a b c u)) ≡ k · s a · s (difference o u r) · (k · s a · s (difference o u q))) (two_plus F)
             (ap (λ k. k · (s a · s (quadratic o a b c u))) (sym (four_plus F))
             ∙ same_by F (point u)
-            (fact (twice_A ⊗ X ⊝ twice_Q) (twice_A ⊗ R) twice_R ∷ fact (twice_A ⊗ X ⊝ twice_A ⊗ R) (twice_A ⊗ Q) twice_Q ∷ fact unit (W ⊗ W) Discriminant ∷ [])
+            (fact (twice_A ⊗ X ⊝ twice_Q) (twice_A ⊗ R) twice_R ∷ fact (twice_A ⊗ X ⊝ twice_A ⊗ R) (twice_A ⊗ Q) twice_Q
+            ∷ fact unit (W ⊗ W) Discriminant ∷ [])
             (constant (pos 4) ⊗ (A ⊗ Polynomial)) (twice_A ⊗ (X ⊝ R) ⊗ (twice_A ⊗ (X ⊝ Q))) (upper_is, (lower_is, (w.1.1, tt))) refl)
 
         at_all : (u : C) → s (quadratic o a b c u) ≡ s (difference o u r) · (s (difference o u q) · s a)

@@ -62,7 +62,8 @@ module _ {C : Type 0} {o : Operations C} {s : C → Sign} (F : IsEuclideanField 
       g = factored F a b c
 
   -- just above v: the sign at v, and else the sign of the derivative just above v
-  pub by_derivative : (a b c v : C) → sign_at o s (above v) a b c ≡ first_sign (s (quadratic o a b c v)) (sign_at o s (above v) zero (mul (of_int o (pos 2)) a) b)
+  pub by_derivative : (a b c v : C)
+      → sign_at o s (above v) a b c ≡ first_sign (s (quadratic o a b c v)) (sign_at o s (above v) zero (mul (of_int o (pos 2)) a) b)
   by_derivative a b c v = ap (first_sign (s (quadratic o a b c v))) (ap₂ first_sign
       (same F (a ∷ b ∷ c ∷ v ∷ []) Slope (nought ⊗ (X ⊗ X) ⊕ twice_A ⊗ X ⊕ B) refl)
       (sym (second ∙ ap (λ k. k · s a) (two_plus F))))
