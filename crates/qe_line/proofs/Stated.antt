@@ -6,11 +6,14 @@ use Rattle.qe_ring.proofs.Finite.{is-eq, to_is}
 use Rattle.qe_line.specs.Field.{IsEuclideanField}
 use Rattle.qe_line.specs.Place.{below, above}
 use Rattle.qe_line.specs.Quadratic.{quadratic, sign_at}
-use Rattle.qe_line.specs.Laws.{KeepsItsSign, SignAtRoot, SignJustAbove, SignFarBelow, Complete, CompleteByKind}
+use Rattle.qe_line.specs.Laws.{KeepsItsSign, SignAtRoot, SignAtQuotient, OneValue, RespectsEquality, SignJustAbove, SignFarBelow, Complete, CompleteByKind}
 use Rattle.qe_line.proofs.AtRoot.{value_at_root, sign_at_value, zero_at_root}
 use Rattle.qe_line.proofs.Between.{root_between}
 use Rattle.qe_line.proofs.SignAt.{sign_is, by_derivative, zero_near}
-use Rattle.qe_line.proofs.Values.{by_distance}
+use Rattle.qe_line.proofs.Values.{has_value, value_turned, by_distance}
+use Rattle.qe_line.proofs.Quotient.{linear_sign_at_quotient, linear_root}
+use Rattle.qe_line.proofs.Equal.{quadratic_same, value_same, root_same}
+use Rattle.qe_line.proofs.Equal as equals
 use Rattle.qe_line.proofs.Complete as completeness
 
 -- three signs are zero where the test for all of them is true, and the other way
@@ -50,6 +53,26 @@ module _ {C : Type 0} {o : Operations C} {s : C → Sign} (F : IsEuclideanField 
     value = λ a b c p q r d v h. value_at_root F a b c p q r d v h;
     sign = λ a b c p q r d v h. sign_at_value F a b c p q r d v h;
     own = λ a b c v h. zero_at_root F a b c v h;
+  }
+
+  pub sign_at_quotient : SignAtQuotient o s
+  sign_at_quotient = record {
+    sign = λ a b c p d v ha hd h. linear_sign_at_quotient F a b c p d v ha hd h;
+    root = λ a b c v h. linear_root F a b c v h;
+  }
+
+  pub one_value : OneValue o s
+  one_value = record {
+    exists = λ p q r d hd hr. has_value F p q r d hd hr;
+    one = λ p q r d u v h k. equals.one_value F p q r d u v h k;
+    turned = λ p q r d v h. value_turned F p q r d v h;
+  }
+
+  pub respects_equality : RespectsEquality o s
+  respects_equality = record {
+    sign = λ a b c x a' b' c' x' ha hb hc hx. quadratic_same F a b c x a' b' c' x' ha hb hc hx;
+    value = λ p q r d v p' q' r' d' v' hp hq hr hd hv h. value_same F p q r d v p' q' r' d' v' hp hq hr hd hv h;
+    root = λ a b c v a' b' c' v' ha hb hc hv h. root_same F a b c v a' b' c' v' ha hb hc hv h;
   }
 
   pub sign_just_above : SignJustAbove o s

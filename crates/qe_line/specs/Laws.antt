@@ -2,10 +2,10 @@
 use Rattle.std.specs.Prelude.{◌≡◌, ◌⊎◌, ◌↔◌, Bool, IsTrue, List, pos}
 use Rattle.qe_ring.specs.Ring.{Operations}
 use Rattle.qe_ring.specs.Expression.{of_int}
-use Rattle.qe_ring.specs.Sign.{Sign, Zero, pick, ◌·◌}
+use Rattle.qe_ring.specs.Sign.{Sign, Zero, IsNotMinus, IsNotZero, pick, ◌·◌}
 use Rattle.qe_ring.specs.Ordered.{EqualBySign, AtMostBySign}
 use Rattle.qe_line.specs.Place.{Place, below, above, Eventually, HoldsJustAbove}
-use Rattle.qe_line.specs.Quadratic.{first_sign, quadratic, slope, plain_part, root_part, norm, IsRootValue, IsRoot, sign_at}
+use Rattle.qe_line.specs.Quadratic.{linear, first_sign, quadratic, slope, plain_part, root_part, norm, IsRootValue, IsRootOfKind, IsRoot, sign_at}
 use Rattle.qe_line.specs.TestPoint.{Polynomial, Condition, signs_of, signs_at, IsTestPoint, MeetsAll, IsTestPointByKind}
 
 module _ {C : Type 0} (o : Operations C) (s : C → Sign) where
@@ -23,6 +23,28 @@ module _ {C : Type 0} (o : Operations C) (s : C → Sign) where
         → s (quadratic o a b c v)
         ≡ pick (s (norm o (plain_part o a b c p q r d) (root_part o a b c p q r d) r)) (s (plain_part o a b c p q r d)) (s (root_part o a b c p q r d) · s r)
     pub own : (a b c v : C) → IsRoot o s a b c v → s (quadratic o a b c v) ≡ Zero
+
+  -- at a quotient v = p/d a polynomial b*x + c has the sign of d times that of b*p + c*d; and the root of such a polynomial is -c/b
+  pub record SignAtQuotient : Type 0 where
+    pub sign : (a b c p d v : C) → s a ≡ Zero → IsNotZero (s d) → EqualBySign o s (o.mul d v) p
+        → s (quadratic o a b c v) ≡ s d · s (o.add (o.mul b p) (o.mul c d))
+    pub root : (a b c v : C) → IsRootOfKind o s linear a b c v → EqualBySign o s (o.mul b v) (o.neg c)
+
+  -- (p + q*sqrt(r))/d has one value up to equality, which stays where p, q and d are turned round
+  pub record OneValue : Type 0 where
+    pub exists : (p q r d : C) → IsNotZero (s d) → IsNotMinus (s r) → (v : C) × IsRootValue o s p q r d v
+    pub one : (p q r d u v : C) → IsRootValue o s p q r d u → IsRootValue o s p q r d v → EqualBySign o s u v
+    pub turned : (p q r d v : C) → IsRootValue o s p q r d v → IsRootValue o s (o.neg p) (o.neg q) r (o.neg d) v
+
+  -- equal coefficients and values give equal signs and the same roots
+  pub record RespectsEquality : Type 0 where
+    pub sign : (a b c x a' b' c' x' : C) → EqualBySign o s a a' → EqualBySign o s b b' → EqualBySign o s c c' → EqualBySign o s x x'
+        → s (quadratic o a b c x) ≡ s (quadratic o a' b' c' x')
+    pub value : (p q r d v p' q' r' d' v' : C)
+        → EqualBySign o s p p' → EqualBySign o s q q' → EqualBySign o s r r' → EqualBySign o s d d' → EqualBySign o s v v'
+        → IsRootValue o s p q r d v → IsRootValue o s p' q' r' d' v'
+    pub root : (a b c v a' b' c' v' : C) → EqualBySign o s a a' → EqualBySign o s b b' → EqualBySign o s c c' → EqualBySign o s v v'
+        → IsRoot o s a b c v → IsRoot o s a' b' c' v'
 
   -- just above v a polynomial has the sign that it has at v, or if that is zero the sign of the derivative there, and else that of a;
   -- so beyond its sign at v it has the sign of the derivative just above v; and it is zero there only if it is zero everywhere

@@ -3,7 +3,7 @@
 ghost use Rattle.qe_ring.specs.Ring.{Operations};
 ghost use Rattle.qe_ring.specs.Sign.{Sign};
 ghost use Rattle.qe_line.specs.Field.{IsEuclideanField};
-ghost use Rattle.qe_line.specs.Laws.{KeepsItsSign, SignAtRoot, SignJustAbove, SignFarBelow, Complete, CompleteByKind};
+ghost use Rattle.qe_line.specs.Laws.{KeepsItsSign, SignAtRoot, SignAtQuotient, OneValue, RespectsEquality, SignJustAbove, SignFarBelow, Complete, CompleteByKind};
 
 /// An ordered field in which all that is not negative has a square root: the values, the operations and the signs.
 pub trait Line {
@@ -24,6 +24,21 @@ pub fn keeps_its_sign<L: Line>()
 /// The sign of a polynomial of degree two at most at the value of a root.
 pub fn sign_at_root<L: Line>()
     ensures { SignAtRoot L.operations L.sign_of }
+{}
+
+/// The sign of a polynomial of degree one at most at a quotient.
+pub fn sign_at_quotient<L: Line>()
+    ensures { SignAtQuotient L.operations L.sign_of }
+{}
+
+/// A root whose divisor is not zero and whose radicand is not negative has one value.
+pub fn one_value<L: Line>()
+    ensures { OneValue L.operations L.sign_of }
+{}
+
+/// Equal coefficients and values give equal signs and the same roots.
+pub fn respects_equality<L: Line>()
+    ensures { RespectsEquality L.operations L.sign_of }
 {}
 
 /// The sign of a polynomial of degree two at most just above a value.
