@@ -6,7 +6,7 @@ use Rattle.qe_ring.specs.Sign.{Sign, Minus, Zero, Plus, is_not_minus, IsNotMinus
 use Rattle.qe_ring.specs.Ordered.{AtMostBySign}
 use Rattle.qe_ring.proofs.Finite.{Step, any, given, Claim, decide}
 use Rattle.qe_line.specs.Field.{IsEuclideanField}
-use Rattle.qe_line.specs.Place.{Place, below, at, above, IsPlus, IsFrom, Eventually}
+use Rattle.qe_line.specs.Place.{Place, below, at, above, IsPlus, LessBySign, Eventually}
 use Rattle.qe_line.proofs.Field.{law}
 use Rattle.qe_line.proofs.Places.{There, most_less, less_most, most_most, weak, itself, either}
 use Rattle.qe_line.proofs.Products.{Each, product}
@@ -75,6 +75,12 @@ Below_root d = (is d Minus, λ _ a c. (is_not_minus c, λ _. (adds a c d, λ _. 
 
 abbrev Above_root : Claim (any ∷ given ∷ any ∷ given ∷ any ∷ given ∷ given ∷ [])
 Above_root d = (is_not_minus d, λ _ a. (is_not_minus a, λ _ c. (is_not_minus c, λ _. (adds a c d, λ _. agrees true a d))))
+
+-- u is not before the place: anything where it is below, what is at least v where it is at v, and what is more than v where it is above v
+abbrev pub IsFrom : {C : Type 0} → Operations C → (C → Sign) → Place C → C → Type 0
+IsFrom o s below u = Unit {0}
+IsFrom o s (at v) u = AtMostBySign o s v u
+IsFrom o s (above v) u = LessBySign o s v u
 
 -- P holds from a place of which K holds up to x, and the place is not after x
 pub record Reach {C : Type 0} (o : Operations C) (s : C → Sign) (K : Place C → Type 0) (x : C) (P : C → Type 0) : Type 0 where

@@ -58,7 +58,7 @@ module _ {C : Type 0} {o : Operations C} {s : C → Sign} (F : IsEuclideanField 
   pub sign_at_quotient : SignAtQuotient o s
   sign_at_quotient = record {
     sign = λ a b c p d v ha hd h. linear_sign_at_quotient F a b c p d v ha hd h;
-    root = λ a b c v h. linear_root F a b c v h;
+    root = λ a b c v ha. linear_root F a b c v ha;
   }
 
   pub one_value : OneValue o s

@@ -5,7 +5,7 @@ use Rattle.qe_ring.specs.Expression.{of_int}
 use Rattle.qe_ring.specs.Sign.{Sign, Zero, IsNotMinus, IsNotZero, pick, ◌·◌}
 use Rattle.qe_ring.specs.Ordered.{EqualBySign, AtMostBySign}
 use Rattle.qe_line.specs.Place.{Place, below, above, Eventually, HoldsJustAbove}
-use Rattle.qe_line.specs.Quadratic.{linear, first_sign, quadratic, slope, plain_part, root_part, norm, IsRootValue, IsRootOfKind, IsRoot, sign_at}
+use Rattle.qe_line.specs.Quadratic.{first_sign, quadratic, slope, plain_part, root_part, norm, IsRootValue, IsRoot, sign_at}
 use Rattle.qe_line.specs.TestPoint.{Polynomial, Condition, signs_of, signs_at, IsTestPoint, MeetsAll, IsTestPointByKind}
 
 module _ {C : Type 0} (o : Operations C) (s : C → Sign) where
@@ -24,11 +24,11 @@ module _ {C : Type 0} (o : Operations C) (s : C → Sign) where
         ≡ pick (s (norm o (plain_part o a b c p q r d) (root_part o a b c p q r d) r)) (s (plain_part o a b c p q r d)) (s (root_part o a b c p q r d) · s r)
     pub own : (a b c v : C) → IsRoot o s a b c v → s (quadratic o a b c v) ≡ Zero
 
-  -- at a quotient v = p/d a polynomial b*x + c has the sign of d times that of b*p + c*d; and the root of such a polynomial is -c/b
+  -- At a quotient v = p/d a polynomial b*x + c has the sign of d times that of b*p + c*d. Its root is -c/b, if b is not zero, and else it has none
   pub record SignAtQuotient : Type 0 where
     pub sign : (a b c p d v : C) → s a ≡ Zero → IsNotZero (s d) → EqualBySign o s (o.mul d v) p
         → s (quadratic o a b c v) ≡ s d · s (o.add (o.mul b p) (o.mul c d))
-    pub root : (a b c v : C) → IsRootOfKind o s linear a b c v → EqualBySign o s (o.mul b v) (o.neg c)
+    pub root : (a b c v : C) → s a ≡ Zero → IsRoot o s a b c v ↔ (IsNotZero (s b) × EqualBySign o s (o.mul b v) (o.neg c))
 
   -- (p + q*sqrt(r))/d has one value up to equality, which stays where p, q and d are turned round
   pub record OneValue : Type 0 where

@@ -2,7 +2,6 @@
 use Rattle.std.specs.Prelude.{T}
 use Rattle.qe_ring.specs.Ring.{Operations, difference}
 use Rattle.qe_ring.specs.Sign.{Sign, Plus, is}
-use Rattle.qe_ring.specs.Ordered.{AtMostBySign}
 
 -- the sign is plus
 abbrev pub IsPlus : Sign → Type 0
@@ -19,12 +18,6 @@ pub data Place (C : Type 0) : Type 0 where
   above : C → Place C
 
 module _ {C : Type 0} (o : Operations C) (s : C → Sign) where
-  -- u is not before the place: everything for the place below, a bound or more at a value, more than a bound above it
-  abbrev pub IsFrom : Place C → C → Type 0
-  IsFrom below u = Unit {0}
-  IsFrom (at v) u = AtMostBySign o s v u
-  IsFrom (above v) u = LessBySign o s v u
-
   -- P holds at the place: for all that is less than some bound; for the value; for all that is more than the value and less than some bound
   abbrev pub Eventually : Place C → (C → Type 0) → Type 0
   Eventually below P = (end : C) × ((u : C) → LessBySign o s u end → P u)
