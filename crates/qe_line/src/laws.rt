@@ -3,7 +3,8 @@
 ghost use Rattle.qe_ring.specs.Ring.{Operations};
 ghost use Rattle.qe_ring.specs.Sign.{Sign};
 ghost use Rattle.qe_line.specs.Field.{IsEuclideanField};
-ghost use Rattle.qe_line.specs.Laws.{KeepsItsSign, SignAtRoot, SignAtQuotient, OneValue, RespectsEquality, SignJustAbove, SignFarBelow, Complete, CompleteByKind};
+ghost use Rattle.qe_line.specs.Laws.{KeepsItsSign, SignAtRoot, SignAtQuotient, OneValue, RespectsEquality};
+ghost use Rattle.qe_line.specs.Laws.{SignJustAbove, SignFarBelow, Complete, CompleteByKind};
 
 /// An ordered field in which all that is not negative has a square root: the values, the operations and the signs.
 /// Where there is one, an `impl` for a type without values names it, and the laws hold at that type.
