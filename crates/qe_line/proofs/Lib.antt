@@ -1,0 +1,16 @@
+pub mod Field
+pub mod Places
+pub mod Products
+pub mod Reach
+pub mod Letters
+pub mod Factored
+pub mod AtRoot
+pub mod Quotient
+pub mod SignAt
+pub mod Atoms
+pub mod Between
+pub mod Values
+pub mod Equal
+pub mod Meaning
+pub mod Complete
+pub mod Stated

@@ -1,0 +1,5 @@
+pub mod Field
+pub mod Place
+pub mod Quadratic
+pub mod TestPoint
+pub mod Laws
