@@ -9,7 +9,7 @@ ghost use Rattle.qe_poly.specs.Collected.{product_row, has_high, exponent_limit,
 
 use crate::limit::{MOST_MONOMIALS, PolyLimit, PolyStop};
 use crate::tally::{Group, enter};
-use crate::term::Term;
+use crate::term::{is_zero, Term};
 use qe_coef::{Coef, Wide};
 use std::alloc::Global;
 
@@ -107,7 +107,7 @@ fn finish(alloc: Global, groups: &[Group]) -> Result<Vec<Term>, PolyStop>
         if let Some(wide) = group.tally.over {
             return Err(PolyStop::Limit(PolyLimit::Coefficient(wide)));
         }
-        if group.tally.sum.value() != 0 {
+        if !is_zero(group.tally.sum) {
             terms.push(Term {
                 monomial: group.monomial.copy(alloc)?,
                 coef: group.tally.sum,

@@ -7,7 +7,7 @@ ghost use Rattle.qe_poly.specs.Rows.{shown, shown_row, merged, kept_results, row
 
 use crate::limit::{MOST_MONOMIALS, PolyLimit, PolyStop};
 use crate::monomial::Monomial;
-use crate::term::Term;
+use crate::term::{is_zero, Term};
 use qe_coef::{Coef, Op, Wide};
 use std::alloc::{AllocError, Global};
 use std::cmp::Ordering;
@@ -117,7 +117,7 @@ fn results(alloc: Global, rows: &[Row], op: Op) -> Result<Vec<Term>, PolyStop>
     for row in rows {
         match apply(op, row.left, row.right) {
             Ok(coef) => {
-                if coef.value() != 0 {
+                if !is_zero(coef) {
                     terms.push(Term {
                         monomial: row.monomial.copy(alloc)?,
                         coef,

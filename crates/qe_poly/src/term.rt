@@ -1,5 +1,8 @@
 //! Terms of polynomials.
 
+ghost use Rattle.std.specs.Prelude.{◌≡◌, pos};
+ghost use Rattle.std.specs.Ordering.{int_eq};
+
 use crate::monomial::Monomial;
 use qe_coef::Coef;
 
@@ -8,4 +11,11 @@ use qe_coef::Coef;
 pub struct Term {
     pub monomial: Monomial,
     pub coef: Coef,
+}
+
+/// Whether a coefficient is 0, so that its term is left out.
+pub fn is_zero(coef: Coef) -> bool
+    ensures { result ≡ int_eq coef (pos 0) }
+{
+    coef.value() == 0
 }
