@@ -1,10 +1,10 @@
 -- The end of a loop over the parts of a list.
-use Rattle.std.proofs.Common.{ℕ, ◌≡◌, ◌≤◌, ◌∙◌, sym, ap, refl, subst, Bool, true, false, List, [], ◌∷◌, ◌++◌, length, drop, arith}
+use Rattle.std.proofs.Common.{ℕ, ◌≡◌, ◌≤◌, ◌∙◌, sym, ap, refl, subst, true, false, List, [], ◌∷◌, ◌++◌, length, drop, arith}
 use Rattle.std.specs.Prelude.{◌==◌}
 use Rattle.std.proofs.lemmas.List.{drop_all}
 use Rattle.std.proofs.lemmas.Grind.{common_steps}
 use Rattle.qe_form.specs.declared.form.Form.{Form}
-use Rattle.qe_form.specs.Tree.{tree, trees}
+use Rattle.qe_form.specs.Tree.{trees}
 use Rattle.qe_print.specs.Formula.{is_one, list_text, parts_text}
 
 -- one part stands alone

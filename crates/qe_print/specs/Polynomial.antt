@@ -1,5 +1,5 @@
 -- The text of a polynomial, where a list of names gives each variable its name, at its number.
-use Rattle.std.specs.Prelude.{ℕ, ℤ, pos, List, [], ◌∷◌, ◌++◌, Bool, ◌==◌, if◌then◌else◌, int_lt, unsigned_abs, codes, decimal, slice_get, unwrap_or}
+use Rattle.std.specs.Prelude.{ℕ, pos, List, [], ◌∷◌, ◌++◌, ◌==◌, if◌then◌else◌, int_lt, unsigned_abs, codes, decimal, slice_get, unwrap_or}
 use Rattle.qe_poly.specs.declared.monomial.Power.{Power}
 use Rattle.qe_poly.specs.Monomial.{Monomial}
 use Rattle.qe_poly.specs.Polynomial.{Polynomial}

@@ -4,6 +4,8 @@
 
 mod formula;
 mod polynomial;
+#[cfg(test)]
+mod tests;
 
 pub use formula::form_text;
 pub use polynomial::poly_text;
