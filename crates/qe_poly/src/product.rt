@@ -9,7 +9,7 @@ ghost use Rattle.qe_poly.specs.Collected.{product_row, has_high, exponent_limit,
 
 use crate::limit::{MOST_MONOMIALS, PolyLimit, PolyStop};
 use crate::tally::{Group, enter};
-use crate::term::{is_zero, Term};
+use crate::term::{Term, is_zero};
 use qe_coef::{Coef, Wide};
 use std::alloc::Global;
 

@@ -7,7 +7,7 @@ ghost use Rattle.qe_poly.specs.Rows.{shown, shown_row, merged, kept_results, row
 
 use crate::limit::{MOST_MONOMIALS, PolyLimit, PolyStop};
 use crate::monomial::Monomial;
-use crate::term::{is_zero, Term};
+use crate::term::{Term, is_zero};
 use qe_coef::{Coef, Op, Wide};
 use std::alloc::{AllocError, Global};
 use std::cmp::Ordering;
