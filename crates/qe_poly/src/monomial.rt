@@ -171,7 +171,7 @@ impl Monomial {
         }
     }
 
-    /// A power of one variable, which is 1 for the exponent 0.
+    /// A power of one variable, which is 1 for the exponent 0. The exponent is at most 65,535.
     pub fn power(alloc: Global, var: Var, exponent: u32) -> Result<Monomial, AllocError>
         requires { exponent ≤ 65535 }
         ensures { IfOk result (λ m. m ≡ power var exponent) }
