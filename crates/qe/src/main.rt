@@ -2,10 +2,10 @@
 //! Knows nothing of what is read or written.
 #![tactic(auto)]
 
-ghost use Rattle.std.specs.Prelude.{◌≡◌, ◌∷◌, [], map, IfOk};
+ghost use Rattle.std.specs.Prelude.{◌≡◌, ◌≢◌, ◌∷◌, [], map, IfOk, IsErr};
 ghost use Rattle.std.specs.String.{string_bytes};
 
-use qe_program::outside::{OutOfMemory, StdSink, StdSource};
+use qe_program::outside::{OutOfMemory, Sink, Source, StdSink, StdSource};
 use qe_program::{Status, run_alone};
 use std::alloc::Global;
 use std::env;
@@ -32,12 +32,26 @@ fn no_text(alloc: Global) -> Result<Vec<String>, OutOfMemory>
     Ok(words)
 }
 
+/// Makes the top call. Where there was no memory for the words, nothing is read and written.
+fn outcome<S: Source, K: Sink>(
+    alloc: Global,
+    words: Result<Vec<String>, OutOfMemory>,
+    source: &mut S,
+    sink: &mut K,
+) -> Status
+    ensures no_memory { IsErr words → (result ≡ Status.OutOfMemory) × (source.new ≡ source.old) × (sink.new ≡ sink.old) }
+    ensures words { IfOk words (λ all. all.items ≢ [] → source.new ≡ source.old) }
+    ensures answer { IfOk words (λ all. all.items ≢ [] → result ≢ Status.Ok) }
+{
+    match words {
+        Ok(words) => run_alone(alloc, &words, source, sink),
+        Err(_) => Status::OutOfMemory,
+    }
+}
+
 fn main(rt: HostRuntime) -> ExitCode {
     let mut source = StdSource::new(rt.stdin());
     let mut sink = StdSink::new(rt.stdout());
-    let status = match words(&rt) {
-        Ok(words) => run_alone(rt.alloc(), &words, &mut source, &mut sink),
-        Err(_) => Status::OutOfMemory,
-    };
-    ExitCode::from(status.code())
+    let words = words(&rt);
+    ExitCode::from(outcome(rt.alloc(), words, &mut source, &mut sink).code())
 }
