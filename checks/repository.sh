@@ -46,8 +46,8 @@ commands() {
 
 # The repository stands alone: no text cites a paper, or one of its sections or demands, by number.
 citations() {
-  git grep -nE '\b(document|paper|section) 0?[0-9]\b|\b0[1-4]-(scope|theorems|requests|rules)\b|shared/papers|\b4\.(1[0-4]|[1-9])\b|\b(W1[0-6]|W[1-9]|D2[0-7]|D1[0-9]|D[1-9]|R1[0-9]|R20|R[1-9]|T[1-5] \([a-h]\))\b' -- \
-    '*.rt' '*.antt' '*.md' '*.edit' crates.txt qe .ci
+  git grep -nE '\b([Dd]ocument|[Pp]aper|[Ss]ection) 0?[0-9]\b|\b0[1-4]-[a-z]+\b|shared/[p]apers|\b[4]\.[0-9]{1,2}\b|\b[WDR][0-9]{1,2}\b|\b[T][1-5] \([a-h]\)' -- \
+    '*.rt' '*.antt' '*.md' '*.edit' '*.sh' crates.txt qe .ci
 }
 
 roots() { for file in crates/*/src/lib.rt crates/*/src/main.rt; do [ ! -f "$file" ] || grep -qF '#![tactic(auto)]' "$file" || echo "$file"; done; }
