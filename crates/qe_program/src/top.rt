@@ -19,10 +19,24 @@ pub fn run_alone<S: Source, K: Sink>(
     sink: &mut K,
 ) -> Status
     // At status 0 the text of a formula was written that has no quantifier and means the same as the one that was read.
-    ensures headline { result ≡ Status.Ok → IfSome (S.left source.old) (λ bytes. (text : List ℕ) × Headline bytes text × Appends (K.taken sink.old) (K.taken sink.new) text) }
+    ensures headline { result ≡ Status.Ok → IfSome (S.left source.old)
+        (λ bytes. (text : List ℕ) × Headline bytes text
+        × Appends (K.taken sink.old) (K.taken sink.new) text) }
 
     // Each status comes only for its cause, and where there is no cause for another the answer is written.
-    ensures causes { Causes (record { words = length words.now; left = S.left source.old; left_after = S.left source.new; read_faults = S.faults source.old; read_faults_after = S.faults source.new; taken = K.taken sink.old; taken_after = K.taken sink.new; write_faults = K.faults sink.old; write_faults_after = K.faults sink.new }) result }
+    ensures causes { Causes
+        (record {
+          words = length words.now;
+          left = S.left source.old;
+          left_after = S.left source.new;
+          read_faults = S.faults source.old;
+          read_faults_after = S.faults source.new;
+          taken = K.taken sink.old;
+          taken_after = K.taken sink.new;
+          write_faults = K.faults sink.old;
+          write_faults_after = K.faults sink.new;
+        })
+        result }
 
     // Words that give no job leave the source as it was.
     ensures source_kept { words.now ≢ [] → source.new ≡ source.old }
