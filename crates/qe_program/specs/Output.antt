@@ -1,6 +1,5 @@
 -- The texts that are written.
-use Rattle.std.specs.Prelude.{ℕ, ◌≡◌, List, [], ◌∷◌, ◌++◌, codes}
-use Rattle.qe_form.specs.Formula.{Formula, True, False}
+use Rattle.std.specs.Prelude.{ℕ, List, [], ◌∷◌, ◌++◌, codes}
 
 -- a text with a line feed at its end
 abbrev pub line : List ℕ → List ℕ
@@ -11,9 +10,3 @@ usage_line = line (codes "usage: qe [eliminate|answers|summary|make] [--workers 
 
 abbrev pub not_built_line : List ℕ
 not_built_line = line (codes "bad input: not built")
-
--- the text of a formula; none but true and false is written yet
-abbrev pub IsText : Formula → List ℕ → Type 0
-IsText True text = text ≡ codes "true"
-IsText False text = text ≡ codes "false"
-IsText f text = ⊥

@@ -7,13 +7,14 @@ ghost use Rattle.qe_program.specs.Decide.{IsOnNumber, IsDecided};
 ghost use Rattle.qe_program.specs.Headline.{IsAnswer};
 ghost use Rattle.qe_program.specs.Input.{HasLiterals, formula_of};
 ghost use Rattle.qe_program.specs.Reply.{Replies, Delivers};
-ghost use Rattle.qe_program.specs.Output.{line, IsText, usage_line, not_built_line};
+ghost use Rattle.qe_program.specs.Output.{line, usage_line, not_built_line};
 
 use crate::comparison::{Comparison, read_comparison};
 use crate::decide::decided;
 use crate::outside::{OutOfMemory, Sink, write_all};
 use crate::status::Status;
 use qe_form::Form;
+use qe_print::form_text;
 use std::alloc::Global;
 
 /// The most bytes of an input that is taken.
@@ -76,18 +77,6 @@ fn solved(form: &Form) -> Form
     }
 }
 
-/// The text of a formula that is true or false itself.
-fn text_of(form: &Form) -> &'static str
-    requires { IsDecided (tree form.now) }
-    ensures { IsText (tree form.now) result.now }
-{
-    match form {
-        Form::True => "true",
-        Form::False => "false",
-        _ => unreachable!(),
-    }
-}
-
 /// The answer to a comparison.
 fn answer_to(alloc: Global, comparison: &Comparison) -> Result<Reply, OutOfMemory>
     requires { HasLiterals comparison.now }
@@ -95,9 +84,11 @@ fn answer_to(alloc: Global, comparison: &Comparison) -> Result<Reply, OutOfMemor
 {
     let input = comparison.input(alloc)?;
     let answer = solved(&input.form);
+    let mut text = form_text(alloc, &answer, &input.names)?;
+    text.push(b'\n')?;
     Ok(Reply {
         status: Status::Ok,
-        text: line(alloc, text_of(&answer))?,
+        text,
     })
 }
 
