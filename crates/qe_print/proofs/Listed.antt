@@ -1,7 +1,7 @@
 -- The end of a loop over the parts of a list.
 use Rattle.std.proofs.Common.{ℕ, ◌≡◌, ◌≤◌, ◌∙◌, sym, ap, refl, subst, true, false, List, [], ◌∷◌, ◌++◌, length, drop, arith}
 use Rattle.std.specs.Prelude.{◌==◌}
-use Rattle.std.proofs.lemmas.List.{drop_all}
+use Rattle.std.proofs.lemmas.List.{append-nil, drop_all}
 use Rattle.std.proofs.lemmas.Grind.{common_steps}
 use Rattle.qe_form.specs.declared.form.Form.{Form}
 use Rattle.qe_form.specs.Tree.{trees}
@@ -12,10 +12,6 @@ is_one-length : (fs : List Form) → (length fs == 1) ≡ is_one (trees fs)
 is_one-length [] = refl
 is_one-length (f ∷ []) = refl
 is_one-length (f ∷ g ∷ fs) = grind (arith, common_steps)
-
-append_nothing : (xs : List ℕ) → xs ++ [] ≡ xs
-append_nothing [] = refl
-append_nothing (x ∷ xs) = ap (λ l. x ∷ l) (append_nothing xs)
 
 some_parts : (none : List ℕ) (fs : List Form) (text : List ℕ) → (length fs == 0) ≡ false → list_text none (trees fs) text ≡ text
 some_parts none [] text h = absurd (cc)
@@ -28,7 +24,7 @@ module _ (names : List (List ℕ)) (joint none old new : List ℕ) where
       → new ≡ old ++ list_text none (trees forms) (parts_text names joint true (is_one (trees forms)) (trees forms))
   all_listed items forms i lent some past left =
       subst (λ fs. new ≡ old ++ list_text none (trees fs) (parts_text names joint true (is_one (trees fs)) (trees fs))) lent
-      (sym (append_nothing new)
+      (sym (append-nil new)
       ∙ (ap (λ fs. new ++ parts_text names joint (i == 0) (length items == 1) (trees fs)) (sym (drop_all i items past))
       ∙ (left
       ∙ (ap (λ alone. old ++ parts_text names joint true alone (trees items)) (is_one-length items)

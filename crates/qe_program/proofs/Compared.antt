@@ -1,6 +1,6 @@
 -- What the reader answers is what the bytes spell, and what is spelled is read.
 use Rattle.std.proofs.Common.{ℕ, ◌-◌, ◌^◌, ◌<◌, ◌≡◌, ◌≢◌, ◌∙◌, sym, ap, subst, refl, Bool, true, false, ◌||◌, ℤ, pos, List, [], ◌∷◌, ◌++◌, Some, None, Option, arith}
-use Rattle.std.proofs.lemmas.Bool.{and_parts, eqb-true}
+use Rattle.std.proofs.lemmas.Bool.{and_parts, or_parts, eqb-true}
 use Rattle.std.proofs.lemmas.Bool.Decides.{nat_tests}
 use Rattle.std.proofs.lemmas.Option.{option_and_then_some}
 use Rattle.std.specs.Prelude.{IsTrue, if◌then◌else◌, nat_lt, ◌==◌, IfNone}
@@ -12,10 +12,6 @@ use Rattle.qe_program.specs.declared.comparison.Comparison.{Comparison}
 use Rattle.qe_program.specs.declared.comparison.Relation.{Relation}
 use Rattle.qe_program.specs.declared.comparison.Relation.TheVariants.{Equal, NotEqual, Less, LessOrEqual, Greater, GreaterOrEqual}
 use Rattle.qe_program.proofs.Scanned.{all_front, front_and_behind, Stops, front-append, behind-append, behind_all, all_where_none_behind}
-
-or_parts : (a b : Bool) → (a || b) ≡ false → (a ≡ false) × (b ≡ false)
-or_parts true b h = absurd cc
-or_parts false b h = (refl, h)
 
 unless_some : {A : Type 0} (b : Bool) (x y : A) → (if b then None else Some x) ≡ Some y → (b ≡ false) × (x ≡ y)
 unless_some true x y h = absurd cc
@@ -48,11 +44,8 @@ number_is bytes after z e =
     let read = numeral_is (front is_digit bytes) (behind is_digit bytes) after z (all_front is_digit bytes) e in
     (read.0, front_and_behind is_digit bytes ∙ ap (λ l. front is_digit bytes ++ l) read.1)
 
-same_test : (b n : ℕ) → (b == n) ≡ true → b ≡ n
-same_test b n h = eqb-true b n h
-
 first_is : (b n : ℕ) (rest : List ℕ) → (b == n) ≡ true → b ∷ rest ≡ n ∷ rest
-first_is b n rest h = ap (λ x. x ∷ rest) (same_test b n h)
+first_is b n rest h = ap (λ x. x ∷ rest) (eqb-true b n h)
 
 -- `text` is what comes before
 module _ (r : Relation) (rest : List ℕ) where
