@@ -3,3 +3,4 @@ pub mod Place
 pub mod Quadratic
 pub mod TestPoint
 pub mod Laws
+pub mod Numbers

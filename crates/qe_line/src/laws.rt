@@ -18,6 +18,22 @@ pub trait Line {
     ghost field: { IsEuclideanField operations sign_of };
 }
 
+/// The line of the numbers.
+pub struct Numbers;
+
+impl Line for Numbers {
+    ghost use Rattle.qe_tower.proofs.ValidNumbers.{ValidNumber, valid_operations, valid_sign};
+    ghost use Rattle.qe_line.specs.Numbers.{numbers};
+
+    ghost carrier = { ValidNumber };
+
+    ghost operations = { valid_operations };
+
+    ghost sign_of = { valid_sign };
+
+    ghost field = { numbers };
+}
+
 /// A polynomial of degree two at most has one sign at two values, or a root between them.
 pub fn keeps_its_sign<L: Line>()
     ensures { KeepsItsSign L.operations L.sign_of }
