@@ -10,6 +10,9 @@ pub mod Places
 pub mod Collected
 pub mod CollectedProduct
 pub mod Parts
+pub mod Multiples
+pub mod Derivatives
+pub mod Divisors
 pub mod KeptTerms
 pub mod Constants
 pub mod Merging

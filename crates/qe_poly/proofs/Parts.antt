@@ -17,22 +17,22 @@ use Rattle.qe_poly.proofs.Canonical.{sorted_from, below_from, Each-monomial}
 
 -- ---- numbers
 
-not_equal : (i j : ℕ) → eqb i j ≡ false → i ≢ j
+pub not_equal : (i j : ℕ) → eqb i j ≡ false → i ≢ j
 not_equal i j test same = grind (arith, nat_tests)
 
-nat_less : (i j : ℕ) → i < j → nat_cmp i j ≡ Less
+pub nat_less : (i j : ℕ) → i < j → nat_cmp i j ≡ Less
 nat_less i j less = grind (arith, nat_tests)
 
-nat_greater : (i j : ℕ) → j < i → nat_cmp i j ≡ Greater
+pub nat_greater : (i j : ℕ) → j < i → nat_cmp i j ≡ Greater
 nat_greater i j less = grind (arith, nat_tests)
 
 above_apart : (x y : ℕ) → x < y → eqb y x ≡ false
 above_apart x y above = grind (arith, nat_tests)
 
-no_way : {A : Type 0} → Greater ≡ Less → A
+pub no_way : {A : Type 0} → Greater ≡ Less → A
 no_way less = absurd (cc)
 
-tie_no_way : {A : Type 0} → Equal ≡ Less → A
+pub tie_no_way : {A : Type 0} → Equal ≡ Less → A
 tie_no_way less = absurd (cc)
 
 -- ---- the place of a variable in a monomial
@@ -48,7 +48,7 @@ exponent_below x (a ∷ m) monomial above =
     later (b ∷ n) above_a = omega arith
 
 -- the variable of a positive exponent is not below the first
-first_below : (x : ℕ) (b : Power) (n : Monomial) → IsMonomial (b ∷ n) → eqb b.var.0 x ≡ false → 0 < exponent_of x n → b.var.0 < x
+pub first_below : (x : ℕ) (b : Power) (n : Monomial) → IsMonomial (b ∷ n) → eqb b.var.0 x ≡ false → 0 < exponent_of x n → b.var.0 < x
 first_below x b n monomial apart positive = by_cases b.var.0 x (not_equal b.var.0 x apart) (λ less. absurd (none less))
   where
     later : (k : Monomial) → IsAbove b.var.0 k → x < b.var.0 → IsAbove x k
@@ -61,11 +61,11 @@ first_below x b n monomial apart positive = by_cases b.var.0 x (not_equal b.var.
     by_cases : (i j : ℕ) → i ≢ j → (j < i → i < j) → i < j
     by_cases i j apart other = grind (arith, nat_tests)
 
-later_first : (b : Power) (m n : Monomial) → IsAbove b.var.0 m → monomial_cmp m (b ∷ n) ≡ Less
+pub later_first : (b : Power) (m n : Monomial) → IsAbove b.var.0 m → monomial_cmp m (b ∷ n) ≡ Less
 later_first b [] n above = refl
 later_first b (c ∷ m) n above = ap (λ r. ordering_then (ordering_then r (nat_cmp c.exponent b.exponent)) (monomial_cmp m n)) (nat_less b.var.0 c.var.0 above)
 
-above_lower : (x y : ℕ) (m : Monomial) → x < y → IsAbove y m → IsAbove x m
+pub above_lower : (x y : ℕ) (m : Monomial) → x < y → IsAbove y m → IsAbove x m
 above_lower x y [] less above = tt
 above_lower x y (c ∷ m) less above = omega arith
 

@@ -1,7 +1,7 @@
 -- A polynomial by the powers of one variable.
-use Rattle.std.specs.Prelude.{ℕ, max, eqb, cond, [], ◌∷◌}
-use Rattle.qe_poly.specs.Monomial.{Monomial}
-use Rattle.qe_poly.specs.Polynomial.{Polynomial}
+use Rattle.std.specs.Prelude.{ℕ, ◌-◌, max, eqb, cond, [], ◌∷◌, ◌++◌, map, pos, ◌*ℤ◌}
+use Rattle.qe_poly.specs.Monomial.{Monomial, power}
+use Rattle.qe_poly.specs.Polynomial.{Polynomial, nonzero}
 
 -- the exponent of a variable, 0 where it does not occur
 abbrev pub exponent_of : ℕ → Monomial → ℕ
@@ -22,3 +22,12 @@ degree_in x (t ∷ ts) = max (exponent_of x t.0) (degree_in x ts)
 abbrev pub coefficient_in : ℕ → ℕ → Polynomial → Polynomial
 coefficient_in x k [] = []
 coefficient_in x k (t ∷ ts) = cond (eqb (exponent_of x t.0) k) ((without x t.0, t.1) ∷ coefficient_in x k ts) (coefficient_in x k ts)
+
+-- the monomial with the exponent of a variable less by one
+abbrev pub lowered : ℕ → Monomial → Monomial
+lowered x [] = []
+lowered x (a ∷ m) = cond (eqb a.var.0 x) (power a.var (a.exponent - 1) ++ m) (a ∷ lowered x m)
+
+-- the derivative: each coefficient times the exponent of the variable, which falls by one; terms without the variable go
+abbrev pub derivative : ℕ → Polynomial → Polynomial
+derivative x p = nonzero (map (λ t. (lowered x t.0, t.1 *ℤ pos (exponent_of x t.0))) p)

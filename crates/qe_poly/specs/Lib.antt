@@ -6,4 +6,6 @@ pub mod Limits
 pub mod Rows
 pub mod Tally
 pub mod Collected
+pub mod Primitive
 pub mod Equal
+pub mod Order

@@ -9,6 +9,7 @@ use Rattle.qe_poly.specs.declared.limit.PolyLimit.TheVariants.{Coefficient, Expo
 use Rattle.qe_poly.specs.declared.limit.PolyStop.{PolyStop}
 use Rattle.qe_poly.specs.declared.limit.PolyStop.TheVariants.{Limit, OutOfMemory}
 use Rattle.qe_poly.specs.Monomial.{is_high}
+use Rattle.qe_poly.specs.Coefficients.{exponent_of}
 use Rattle.qe_poly.specs.Polynomial.{Polynomial, gathered, coefficient, pairs, products}
 
 -- the first limit, and where there is none the second
@@ -50,6 +51,14 @@ product_limit p q =
     (limit_if (ltb 4096 (length groups)) Monomials
     (or_else (first_limit (λ pair. wide Mul (pair.0).1 (pair.1).1) (pairs p q))
     (first_limit (λ g. magnitude_limit 0 g.1) groups)))
+
+-- the limit at the greatest monomial whose coefficient times the number leaves the range
+abbrev pub scale_limit : ℤ → Polynomial → Option PolyLimit
+scale_limit c p = first_limit (λ t. wide Mul t.1 c) p
+
+-- the limit at the greatest monomial whose coefficient times the exponent of the variable leaves the range
+abbrev pub derivative_limit : ℕ → Polynomial → Option PolyLimit
+derivative_limit x p = first_limit (λ t. wide Mul t.1 (pos (exponent_of x t.0))) p
 
 -- the stop is that limit, or want of memory
 abbrev pub IsStop : Option PolyLimit → PolyStop → Type 0

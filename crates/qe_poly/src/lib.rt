@@ -4,8 +4,10 @@
 
 mod limit;
 mod monomial;
+mod multiple;
 mod part;
 mod poly;
+mod primitive;
 mod product;
 mod sum;
 mod tally;

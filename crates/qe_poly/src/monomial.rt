@@ -6,7 +6,7 @@ ghost use Rattle.std.specs.Ordering.{as_partial_cmp};
 ghost use Rattle.std.specs.Cmp.{partial_equiv_from_equiv, partial_order_from_own_ties};
 ghost use Rattle.std.specs.Cmp.Rules.{comparing};
 ghost use Rattle.qe_poly.specs.Monomial.{monomial_cmp, power, power_cmp, times, is_high};
-ghost use Rattle.qe_poly.specs.Coefficients.{exponent_of, without};
+ghost use Rattle.qe_poly.specs.Coefficients.{exponent_of, without, lowered};
 ghost use Rattle.qe_poly.specs.Equal.{monomial_eq, monomial_eq_equiv, monomial_fed, monomial_fed_alike};
 
 use std::alloc::{AllocError, Global};
@@ -83,6 +83,28 @@ fn powers_without(alloc: Global, powers: &[Power], var: Var) -> Result<Vec<Power
     for i in 0..powers.len() {
         let power = powers[i];
         if power.var == var {
+            kept.extend_from_slice(&powers[i + 1..])?;
+            return Ok(kept);
+        }
+        kept.push(power)?;
+    }
+    Ok(kept)
+}
+
+/// The powers with the exponent of a variable less by one.
+fn powers_lowered(alloc: Global, powers: &[Power], var: Var) -> Result<Vec<Power>, AllocError>
+    ensures { IfOk result (λ v. v.items ≡ lowered var.0 powers.now) }
+{
+    let mut kept = Vec::new(alloc);
+    for i in 0..powers.len() {
+        let power = powers[i];
+        if power.var == var {
+            if power.exponent > 1 {
+                kept.push(Power {
+                    var: power.var,
+                    exponent: power.exponent - 1,
+                })?;
+            }
             kept.extend_from_slice(&powers[i + 1..])?;
             return Ok(kept);
         }
@@ -225,6 +247,14 @@ impl Monomial {
         ensures { IfOk result (λ m. m ≡ without var.0 self.now) }
     {
         let powers = powers_without(alloc, &self.powers, var)?;
+        Ok(Monomial { powers })
+    }
+
+    /// The monomial with the exponent of a variable less by one; the same where it does not occur.
+    pub fn lowered(&self, alloc: Global, var: Var) -> Result<Monomial, AllocError>
+        ensures { IfOk result (λ m. m ≡ lowered var.0 self.now) }
+    {
+        let powers = powers_lowered(alloc, &self.powers, var)?;
         Ok(Monomial { powers })
     }
 

@@ -1,21 +1,27 @@
 //! Polynomials and their operations.
 
-ghost use Rattle.std.specs.Prelude.{ℤ, pos, ◌≡◌, ◌≢◌, ◌≤◌, ◌∷◌, [], IfOk, IfSome, IfNone, map};
+ghost use Rattle.std.specs.Prelude.{ℤ, pos, refl, Some, ◌≡◌, ◌≢◌, ◌≤◌, ◌∷◌, [], IfOk, IfSome, IfNone, map};
 ghost use Rattle.qe_poly.specs.Rows.{shown};
-ghost use Rattle.std.specs.Cmp.{partial_equiv_from_equiv};
+ghost use Rattle.std.specs.Cmp.{partial_equiv_from_equiv, po};
 ghost use Rattle.qe_poly.specs.Polynomial as spec;
-ghost use Rattle.qe_poly.specs.Coefficients.{degree_in, coefficient_in};
-ghost use Rattle.qe_poly.specs.Limits.{IsAnswer, sum_limit, product_limit};
+ghost use Rattle.qe_poly.specs.Coefficients.{degree_in, coefficient_in, derivative};
+ghost use Rattle.qe_poly.specs.Value.{scaled};
+ghost use Rattle.qe_poly.specs.Limits.{IsAnswer, sum_limit, product_limit, scale_limit, derivative_limit};
+ghost use Rattle.qe_poly.specs.Primitive.{primitive, leads_negative, IsMultiple};
 ghost use Rattle.qe_poly.specs.Equal.{poly_eq, poly_eq_equiv, poly_fed, poly_fed_alike};
+ghost use Rattle.qe_poly.specs.Order.{poly_cmp, poly_total, poly_ties};
 
 use crate::limit::PolyStop;
 use crate::monomial::{Monomial, Var};
+use crate::multiple::{derivative, multiple};
 use crate::part::part;
+use crate::primitive::{content, leads_negative, negated_if, quotients};
 use crate::product::multiply;
 use crate::sum::combine;
 use crate::term::Term;
 use qe_coef::{Coef, Op};
 use std::alloc::{AllocError, Global};
+use std::cmp::Ordering;
 use std::hash::{Hash, Hasher};
 use std::marker::Model;
 
@@ -115,6 +121,40 @@ impl Poly {
         Ok(Poly { terms })
     }
 
+    /// The polynomial times a number. The limit is `Coefficient` at the greatest monomial whose coefficient times the
+    /// number is out of range, with the coefficient and the number.
+    pub fn scale(&self, alloc: Global, by: Coef) -> Result<Poly, PolyStop>
+        ensures { IsAnswer (scale_limit by self.now) (scaled by self.now) result }
+    {
+        let terms = multiple(alloc, &self.terms, by)?;
+        Ok(Poly { terms })
+    }
+
+    /// The polynomial divided by the greatest common divisor of its coefficients, with a positive leading coefficient, and
+    /// whether the leading coefficient was negative. The polynomial 0 stays as it is.
+    pub fn primitive(&self, alloc: Global) -> Result<(Poly, bool), AllocError>
+        ensures exact { IfOk result (λ r. (r.0 ≡ primitive self.now) × (r.1 ≡ leads_negative self.now)) }
+        ensures multiple { IfOk result (λ r. IsMultiple self.now r.0 r.1) }
+    {
+        if self.terms.is_empty() {
+            let terms = Vec::new(alloc);
+            return Ok((Poly { terms }, false));
+        }
+        let is_negative = leads_negative(&self.terms);
+        let divisor = negated_if(is_negative, content(&self.terms));
+        let terms = quotients(alloc, &self.terms, divisor)?;
+        Ok((Poly { terms }, is_negative))
+    }
+
+    /// The derivative by a variable. The limit is `Coefficient` at the greatest monomial whose coefficient times the
+    /// exponent of the variable is out of range, with the coefficient and the exponent.
+    pub fn derivative(&self, alloc: Global, var: Var) -> Result<Poly, PolyStop>
+        ensures { IsAnswer (derivative_limit var.0 self.now) (derivative var.0 self.now) result }
+    {
+        let terms = derivative(alloc, &self.terms, var)?;
+        Ok(Poly { terms })
+    }
+
     /// The negative.
     pub fn neg(&self, alloc: Global) -> Result<Poly, AllocError>
         ensures { IfOk result (λ p. p ≡ spec.negative self.now) }
@@ -131,7 +171,8 @@ impl Poly {
 
     /// The greatest exponent of a variable, 0 where it does not occur.
     pub fn degree_in(&self, var: Var) -> u32
-        ensures { result ≡ degree_in var.0 self.now }
+        ensures degree { result ≡ degree_in var.0 self.now }
+        ensures canonical { spec.IsPolynomial self.now }
     {
         let mut degree = 0;
         for term in &self.terms {
@@ -141,18 +182,21 @@ impl Poly {
     }
 
     /// The coefficient of a power of a variable: the terms that have that power, without the variable.
-    fn coefficient_in(&self, alloc: Global, var: Var, exponent: u32) -> Result<Poly, AllocError>
-        ensures { IfOk result (λ p. p ≡ coefficient_in var.0 exponent self.now) }
+    pub fn coefficient_in(&self, alloc: Global, var: Var, exponent: u32) -> Result<Poly, AllocError>
+        ensures part { IfOk result (λ p. p ≡ coefficient_in var.0 exponent self.now) }
+        ensures canonical { spec.IsPolynomial self.now }
     {
         let terms = part(alloc, &self.terms, var, exponent)?;
         Ok(Poly { terms })
     }
 
-    /// The coefficients of the second, the first and the zeroth power of a variable, whose degree is at most 2.
+    /// The coefficients of the second, the first and the zeroth power of a variable, whose degree is at most 2. The clause
+    /// `canonical` is there for the values: no monomial has a variable twice, so the coefficients give the polynomial's values.
     pub fn coeffs_in(&self, alloc: Global, var: Var) -> Result<[Poly; 3], AllocError>
         requires { degree_in var.0 self.now ≤ 2 }
-        ensures { IfOk result (λ c. c ≡ coefficient_in var.0 2 self.now ∷ coefficient_in var.0 1 self.now
+        ensures parts { IfOk result (λ c. c ≡ coefficient_in var.0 2 self.now ∷ coefficient_in var.0 1 self.now
             ∷ coefficient_in var.0 0 self.now ∷ []) }
+        ensures canonical { spec.IsPolynomial self.now }
     {
         let square = self.coefficient_in(alloc, var, 2)?;
         let linear = self.coefficient_in(alloc, var, 1)?;
@@ -171,12 +215,21 @@ impl Poly {
     pub fn as_constant(&self) -> Option<Coef>
         ensures constant { IfSome result (λ c. self.now ≡ spec.constant c) }
         ensures other { IfNone result ((c : ℤ) → self.now ≢ spec.constant c) }
+        ensures canonical { spec.IsPolynomial self.now }
     {
         match self.terms.as_slice() {
             [] => Some(Coef::zero()),
             [term] if term.monomial.is_one() => Some(term.coef),
             _ => None,
         }
+    }
+
+    /// The order of polynomials: at the first term where they differ the greater monomial comes first, and for one
+    /// monomial the smaller coefficient. A polynomial that ends comes before those that go on.
+    pub fn compare(&self, other: &Poly) -> Ordering
+        ensures { result ≡ poly_cmp self.now other.now }
+    {
+        self.terms.as_slice().cmp(other.terms.as_slice())
     }
 }
 
@@ -201,6 +254,30 @@ impl Hash for Poly {
 
     fn hash<H: Hasher>(&self, state: &mut H) {
         self.terms.hash(state);
+    }
+}
+
+impl Ord for Poly {
+    ghost cmp = { poly_cmp };
+
+    ghost total = { poly_total };
+
+    ghost matches_partial_cmp = { λ _ _. refl };
+
+    ghost matches_eq = { poly_ties };
+
+    fn cmp(&self, other: &Poly) -> Ordering {
+        self.compare(other)
+    }
+}
+
+impl PartialOrd for Poly {
+    ghost partial_cmp = { λ p q. Some (poly_cmp p q) };
+
+    ghost laws = { po poly_total poly_ties };
+
+    fn partial_cmp(&self, other: &Poly) -> Option<Ordering> {
+        Some(self.cmp(other))
     }
 }
 
@@ -311,6 +388,104 @@ mod tests {
         let product = a.add(alloc, &k)?.mul(alloc, &a.sub(alloc, &k)?);
         let square = 170141183460469231722567801800623612944;
         assert_eq!(rt; number(product), wide(Op::Add, square, square));
+        Ok(())
+    }
+
+    #[test]
+    fn scales_by_a_number(rt: HostRuntime) -> Result<(), Fail> {
+        let alloc = rt.alloc();
+        for (value, by, want) in [
+            (3, 4, Ok(Some(12))),
+            (-3, 4, Ok(Some(-12))),
+            (5, 0, Ok(Some(0))),
+            (0, 5, Ok(Some(0))),
+            (MOST, -1, Ok(Some(-MOST))),
+            (MOST, 2, wide(Op::Mul, MOST, 2)),
+        ] {
+            let p = Poly::constant(alloc, coef(value))?;
+            assert_eq!(rt;
+                number(p.scale(alloc, coef(by))),
+                want,
+                "{value} times {by}"
+            );
+        }
+        let x = Poly::power(alloc, Var(0), 1)?;
+        let sum = x.add(alloc, &x)?;
+        assert!(rt; x.scale(alloc, coef(2))? == sum);
+        Ok(())
+    }
+
+    /// The sum of terms, each a coefficient with the exponents of two variables.
+    fn sum_of(alloc: Global, terms: &[(i128, u16, u16)]) -> Result<Poly, PolyStop> {
+        let mut sum = Poly::constant(alloc, Coef::zero())?;
+        for (value, x, y) in terms {
+            let powers = Poly::power(alloc, Var(0), u32::from(*x))?;
+            let term = powers.mul(alloc, &Poly::power(alloc, Var(1), u32::from(*y))?)?;
+            sum = sum.add(alloc, &term.scale(alloc, coef(*value))?)?;
+        }
+        Ok(sum)
+    }
+
+    #[test]
+    fn derives_by_a_variable(rt: HostRuntime) -> Result<(), Fail> {
+        let alloc = rt.alloc();
+        // 3*x^2*y - 5*x + 7*y: by x it is 6*x*y - 5, by y it is 3*x^2 + 7, by another variable it is 0
+        let p = sum_of(alloc, &[(3, 2, 1), (-5, 1, 0), (7, 0, 1)])?;
+        assert!(rt; p.derivative(alloc, Var(0))? == sum_of(alloc, &[(6, 1, 1), (-5, 0, 0)])?);
+        assert!(rt; p.derivative(alloc, Var(1))? == sum_of(alloc, &[(3, 2, 0), (7, 0, 0)])?);
+        assert_eq!(rt; number(p.derivative(alloc, Var(2))), Ok(Some(0)));
+
+        let wide_term = sum_of(alloc, &[(MOST, 2, 0), (1, 1, 0)])?;
+        let limit = wide_term.derivative(alloc, Var(0));
+        assert_eq!(rt; number(limit), wide(Op::Mul, MOST, 2));
+        Ok(())
+    }
+
+    #[test]
+    fn compares_term_by_term(rt: HostRuntime) -> Result<(), Fail> {
+        let alloc = rt.alloc();
+        // 0, -x^2, x^2, x^2 + y, x^2 + 1, x*y, x, y^2, y, -5, 3
+        let in_order = [
+            sum_of(alloc, &[])?,
+            sum_of(alloc, &[(-1, 2, 0)])?,
+            sum_of(alloc, &[(1, 2, 0)])?,
+            sum_of(alloc, &[(1, 2, 0), (1, 0, 1)])?,
+            sum_of(alloc, &[(1, 2, 0), (1, 0, 0)])?,
+            sum_of(alloc, &[(1, 1, 1)])?,
+            sum_of(alloc, &[(1, 1, 0)])?,
+            sum_of(alloc, &[(1, 0, 2)])?,
+            sum_of(alloc, &[(1, 0, 1)])?,
+            sum_of(alloc, &[(-5, 0, 0)])?,
+            sum_of(alloc, &[(3, 0, 0)])?,
+        ];
+        for (i, p) in in_order.iter().enumerate() {
+            for (j, q) in in_order.iter().enumerate() {
+                assert_eq!(rt; p.compare(q), i.cmp(&j), "{i} and {j}");
+                assert_eq!(rt; p == q, i == j, "{i} and {j}");
+            }
+        }
+        Ok(())
+    }
+
+    #[test]
+    fn divides_by_the_content(rt: HostRuntime) -> Result<(), Fail> {
+        let alloc = rt.alloc();
+        // a*x + b*y, the primitive polynomial's a and b, and whether it is negated
+        for (a, b, x, y, negated) in [
+            (6, -4, 3, -2, false),
+            (-6, 4, 3, -2, true),
+            (-6, -4, 3, 2, true),
+            (0, -7, 0, 1, true),
+            (1, 2, 1, 2, false),
+            (MOST, 0, 1, 0, false),
+            (-MOST, MOST, 1, -1, true),
+            (0, 0, 0, 0, false),
+        ] {
+            let (primitive, told) = sum_of(alloc, &[(a, 1, 0), (b, 0, 1)])?.primitive(alloc)?;
+            let want = sum_of(alloc, &[(x, 1, 0), (y, 0, 1)])?;
+            assert!(rt; primitive == want, "{a} and {b}");
+            assert_eq!(rt; told, negated, "{a} and {b}");
+        }
         Ok(())
     }
 

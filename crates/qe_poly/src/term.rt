@@ -1,10 +1,15 @@
 //! Terms of polynomials.
 
-ghost use Rattle.std.specs.Prelude.{◌≡◌, pos};
-ghost use Rattle.std.specs.Ordering.{int_eq};
+ghost use Rattle.std.specs.Prelude.{◌≡◌, pos, refl, Some};
+ghost use Rattle.std.specs.Ordering.{int_eq, as_partial_cmp};
+ghost use Rattle.std.specs.Int.RustNames.{int_lt};
+ghost use Rattle.std.specs.Cmp.{on_total, po};
+ghost use Rattle.qe_poly.specs.Order.{term_cmp, term_total, term_ties};
+ghost use Rattle.qe_poly.specs.Rows.{shown};
 
 use crate::monomial::Monomial;
 use qe_coef::Coef;
+use std::cmp::Ordering;
 
 /// A monomial with its coefficient, which is not 0 in a polynomial.
 #[derive(PartialEq, Eq, Hash, Drop)]
@@ -13,9 +18,42 @@ pub struct Term {
     pub coef: Coef,
 }
 
+impl Ord for Term {
+    ghost cmp = { λ t u. term_cmp (shown t) (shown u) };
+
+    ghost total = { on_total shown term_total };
+
+    ghost matches_partial_cmp = { λ _ _. refl };
+
+    ghost matches_eq = { λ t u. term_ties (shown t) (shown u) };
+
+    /// The greater monomial comes first, and for one monomial the smaller coefficient.
+    fn cmp(&self, other: &Term) -> Ordering {
+        let monomials = other.monomial.compare(&self.monomial);
+        monomials.then(self.coef.value().cmp(&other.coef.value()))
+    }
+}
+
+impl PartialOrd for Term {
+    ghost partial_cmp = { λ t u. Some (term_cmp (shown t) (shown u)) };
+
+    ghost laws = { po (on_total shown term_total) (λ t u. term_ties (shown t) (shown u)) };
+
+    fn partial_cmp(&self, other: &Term) -> Option<Ordering> {
+        Some(self.cmp(other))
+    }
+}
+
 /// Whether a coefficient is 0, so that its term is left out.
 pub fn is_zero(coef: Coef) -> bool
     ensures { result ≡ int_eq coef (pos 0) }
 {
     coef.value() == 0
+}
+
+/// Whether a coefficient is negative.
+pub fn is_negative(coef: Coef) -> bool
+    ensures { result ≡ int_lt coef (pos 0) }
+{
+    coef.value() < 0
 }

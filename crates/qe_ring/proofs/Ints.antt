@@ -29,7 +29,7 @@ mul-add_z a b c = same_in (a *ℤ (b +ℤ c)) (a *ℤ b +ℤ a *ℤ c)
 mul-one_z : (a : ℤ) → a *ℤ pos 1 ≡ a
 mul-one_z a = same_in (a *ℤ pos 1) a (simp (up-mul, down-mul) (omega arith))
 
-int_ring : IsRing int_operations (λ a b. a ≡ b)
+pub int_ring : IsRing int_operations (λ a b. a ≡ b)
 int_ring = record {
   same = λ a. refl;
   back = λ a b p. sym p;
