@@ -3,8 +3,12 @@ use Rattle.std.proofs.Common.{ℕ, zero, suc, ◌+◌, ◌≡◌, ◌<◌, ◌�
 use Rattle.std.proofs.lemmas.List.{drop_all}
 use Rattle.std.proofs.Math.Numerals.{add-one}
 use Rattle.qe_form.specs.declared.form.Form.{Form}
-use Rattle.qe_form.specs.Formula.{Formula, Formulas, more, no_more}
-use Rattle.qe_form.specs.Tree.{tree, trees, followed}
+use Rattle.qe_form.specs.declared.form.Form.TheVariants as code
+use Rattle.qe_form.specs.declared.form.Form.TheOpen as layer
+use Rattle.qe_form.specs.declared.form.Form.TheFolds.{fold-roll-Form}
+use Rattle.qe_form.specs.Formula.{Formula, Formulas, And, Or, more, no_more}
+use Rattle.qe_form.specs.Tree.{tree, tree_step, trees, followed}
+use Rattle.qe_form.specs.Fed.{size}
 
 followed-push : (fs : List Form) (f : Form) (ts : Formulas) → followed (fs ++ f ∷ []) ts ≡ followed fs (more (tree f) ts)
 followed-push [] f ts = refl
@@ -35,3 +39,26 @@ made_more out new n t before after all w s r inv =
 -- the end of such a loop
 pub made_all : (out : List Form) (left all : Formulas) → left ≡ no_more → followed out left ≡ all → trees out ≡ all
 made_all out left all e inv = sym (followed-no_more out) ∙ ap (followed out) (sym e) ∙ inv
+
+-- the number of parts
+pub size_trees : (fs : List Form) → length fs ≡ size (trees fs)
+size_trees [] = refl
+size_trees (f ∷ fs) = ap suc (size_trees fs)
+
+-- ---- the tree of a list
+
+pub tree_and : (fs : List Form) → tree (code.And fs) ≡ And (trees fs)
+tree_and fs = ap tree (sym (code.rolls-And fs)) ∙ fold-roll-Form Formula tree_step (layer.Form-F.And fs)
+
+pub tree_or : (fs : List Form) → tree (code.Or fs) ≡ Or (trees fs)
+tree_or fs = ap tree (sym (code.rolls-Or fs)) ∙ fold-roll-Form Formula tree_step (layer.Form-F.Or fs)
+
+-- ---- one more at the end
+
+abbrev pub appended : Formulas → Formula → Formulas
+appended no_more t = more t no_more
+appended (more u us) t = more u (appended us t)
+
+pub trees_push : (fs : List Form) (f : Form) → trees (fs ++ f ∷ []) ≡ appended (trees fs) (tree f)
+trees_push [] f = refl
+trees_push (g ∷ fs) f = ap (more (tree g)) (trees_push fs f)

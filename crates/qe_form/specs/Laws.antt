@@ -1,10 +1,14 @@
 -- The laws of values, truth and sameness, stated.
-use Rattle.std.specs.Prelude.{ℕ, ℤ, Bool, true, false, ◌⊎◌, ◌↔◌, Option, Some, None}
+use Rattle.std.specs.Prelude.{◌≡◌, ℕ, ℤ, Bool, true, false, ◌⊎◌, ◌↔◌, Option, Some, None}
+use Rattle.std.specs.declared.cmp.Ordering.TheVariants as ordering
+use Rattle.std.specs.Cmp.{IsTotalOrder}
 use Rattle.qe_tower.specs.Number.{Number, add, mul, neg, whole_number, Equal}
 use Rattle.qe_tower.specs.Point.{Point, IsPoint, look_up}
 use Rattle.qe_poly.specs.Polynomial.{Polynomial, sum, negative, product}
 use Rattle.qe_poly.specs.Value.{scaled}
 use Rattle.qe_form.specs.Formula.{Formula, Formulas, And, Or, Not, Implies, Iff, Ex, All}
+use Rattle.qe_form.specs.Measures.{Has}
+use Rattle.qe_form.specs.Order.{formula_cmp}
 use Rattle.qe_form.specs.Value.{value}
 use Rattle.qe_form.specs.Truth.{Is}
 use Rattle.qe_form.specs.Same.{IsFree, HasNoQuantifier, Gives, Same, SameEach}
@@ -78,3 +82,12 @@ SameNumbers p q = (x : ℕ) → SameNumber (look_up p x) (look_up q x)
 -- a formula is true at one point where it is true at another with the same numbers, and false where it is false there
 abbrev pub EqualPoints : Type 0
 EqualPoints = (f : Formula) (p q : Point) → IsPoint p → IsPoint q → SameNumbers p q → (b : Bool) → Is f b p ↔ Is f b q
+
+-- in a formula without quantifiers the variables that occur are those that are free
+abbrev pub OccurringIsFree : Type 0
+OccurringIsFree = (x : ℕ) (f : Formula) → HasNoQuantifier f → Has x f ↔ IsFree x f
+
+-- the order of formulas is total, and does not tell apart exactly those that are equal
+pub record OrderIsTotal : Type 0 where
+  pub total : IsTotalOrder formula_cmp
+  pub tells : (f g : Formula) → (formula_cmp f g ≡ ordering.Equal) ↔ (f ≡ g)

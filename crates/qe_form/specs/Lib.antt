@@ -4,4 +4,9 @@ pub mod Tree
 pub mod Value
 pub mod Truth
 pub mod Same
+pub mod Measures
+pub mod Order
+pub mod Fed
+pub mod Negation
+pub mod OrderLaws
 pub mod Laws

@@ -1,6 +1,6 @@
-//! The laws of values and of truth. Each function does nothing: its clause is the law.
+//! The laws of values, of truth and of the order. Each function does nothing: its clause is the law.
 
-ghost use Rattle.qe_form.specs.Laws.{NeverBoth, Decided, Classical, SameIsPreorder, SameIsKept, SameIsLiteral, ValueOfSum, ValueOfNegative, ValueOfProduct, ValueOfMultiple, EqualPoints};
+ghost use Rattle.qe_form.specs.Laws.{NeverBoth, Decided, Classical, SameIsPreorder, SameIsKept, SameIsLiteral, ValueOfSum, ValueOfNegative, ValueOfProduct, ValueOfMultiple, EqualPoints, OccurringIsFree, OrderIsTotal};
 
 /// No formula is both true and false at a point.
 pub fn never_both()
@@ -55,4 +55,14 @@ pub fn value_of_multiple()
 /// A formula is true at both, or false at both, of two points that give equal numbers to the same variables.
 pub fn equal_points()
     ensures { EqualPoints }
+{}
+
+/// In a formula without quantifiers the variables that occur are those that are free.
+pub fn occurring_is_free()
+    ensures { OccurringIsFree }
+{}
+
+/// The order of formulas is total, and ties exactly where they are equal.
+pub fn order_is_total()
+    ensures { OrderIsTotal }
 {}

@@ -3,8 +3,12 @@
 #![tactic(auto)]
 
 mod form;
+mod hash;
 pub mod laws;
+mod measures;
 mod names;
+mod negation;
+mod order;
 mod signs;
 
 pub use form::{Atom, Form, Forms};

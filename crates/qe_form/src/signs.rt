@@ -70,6 +70,20 @@ impl Signs {
         }
     }
 
+    /// Whether minus is in the set.
+    pub fn has_minus(self) -> bool
+        ensures { result ≡ self.minus }
+    {
+        self.minus
+    }
+
+    /// Whether plus is in the set.
+    pub fn has_plus(self) -> bool
+        ensures { result ≡ self.plus }
+    {
+        self.plus
+    }
+
     /// Whether zero is in the set.
     pub fn has_zero(self) -> bool
         ensures { result ≡ self.zero }
@@ -103,7 +117,9 @@ mod tests {
                 "complement of {bits}"
             );
             assert_eq!(rt; signs.mirror().bits(), mirror, "mirror of {bits}");
+            assert_eq!(rt; signs.has_minus(), minus, "minus in {bits}");
             assert_eq!(rt; signs.has_zero(), zero, "zero in {bits}");
+            assert_eq!(rt; signs.has_plus(), plus, "plus in {bits}");
         }
     }
 

@@ -1,0 +1,198 @@
+//! How many atoms a formula has, its degree in a variable, and whether a variable occurs in it.
+
+ghost use Rattle.std.specs.Prelude.{◌≡◌, ◌≤◌, ◌+◌, ◌↔◌, IsTrue, min, map};
+ghost use Rattle.qe_poly.specs.Rows.{shown};
+ghost use Rattle.qe_form.specs.Tree.{tree, trees};
+ghost use Rattle.qe_form.specs.Same.{OccursIn, OccursInSome};
+ghost use Rattle.qe_form.specs.Measures.{count, count_each, degree, degree_of_some, Has, SomeHas};
+
+use crate::{Form, Forms, Poly, Var};
+use qe_poly::{Power, Term};
+
+/// Where `atom_count` stops: one more than a formula may have.
+const MOST_COUNTED: u32 = 65_537;
+
+/// The sum of two counts, which stops at 65,537.
+fn count_sum(left: u32, right: u32) -> u32
+    requires left_stops { left ≤ 65537 }
+    requires right_stops { right ≤ 65537 }
+    ensures { result ≡ min 65537 (left + right) }
+{
+    MOST_COUNTED.min(left + right)
+}
+
+/// Whether a variable is that of one of the powers.
+fn occurs_in(powers: &[Power], var: Var) -> bool
+    ensures { IsTrue result ↔ OccursIn var.0 powers.now }
+{
+    for power in powers {
+        if power.var == var {
+            return true;
+        }
+    }
+    false
+}
+
+/// Whether a variable occurs in one of the terms.
+fn occurs_in_some(terms: &[Term], var: Var) -> bool
+    ensures { IsTrue result ↔ OccursInSome var.0 (map shown terms.now) }
+{
+    for term in terms {
+        if occurs_in(term.monomial.powers(), var) {
+            return true;
+        }
+    }
+    false
+}
+
+/// Whether a variable occurs in a polynomial.
+fn poly_has(poly: &Poly, var: Var) -> bool
+    ensures { IsTrue result ↔ OccursInSome var.0 poly.now }
+{
+    occurs_in_some(poly.terms(), var)
+}
+
+impl Form {
+    /// How many atoms, constants and quantifiers it has, each counted as one; 65,537 where it has more.
+    #[cycle(atom_count)]
+    pub fn atom_count(&self) -> u32
+        ensures { result ≡ min 65537 (count (tree self.now)) }
+    {
+        match self {
+            Form::True | Form::False | Form::Atom(_) => 1,
+            Form::And(parts) | Form::Or(parts) => count_all(parts),
+            Form::Not(inner) => inner.atom_count(),
+            Form::Implies(left, right) | Form::Iff(left, right) => {
+                count_sum(left.atom_count(), right.atom_count())
+            }
+            Form::Ex(_, body) | Form::All(_, body) => count_sum(1, body.atom_count()),
+        }
+    }
+
+    /// The greatest degree of one of its polynomials in a variable, free or bound; 0 where there is none.
+    #[cycle(degree_in)]
+    pub fn degree_in(&self, var: Var) -> u32
+        ensures { result ≡ degree var.0 (tree self.now) }
+    {
+        match self {
+            Form::True | Form::False => 0,
+            Form::Atom(atom) => atom.poly.degree_in(var),
+            Form::And(parts) | Form::Or(parts) => degree_of_all(parts, var),
+            Form::Not(inner) => inner.degree_in(var),
+            Form::Implies(left, right) | Form::Iff(left, right) => {
+                left.degree_in(var).max(right.degree_in(var))
+            }
+            Form::Ex(_, body) | Form::All(_, body) => body.degree_in(var),
+        }
+    }
+
+    /// Whether a variable occurs in one of its polynomials, free or bound.
+    #[cycle(has)]
+    pub fn has(&self, var: Var) -> bool
+        ensures { IsTrue result ↔ Has var.0 (tree self.now) }
+    {
+        match self {
+            Form::True | Form::False => false,
+            Form::Atom(atom) => poly_has(&atom.poly, var),
+            Form::And(parts) | Form::Or(parts) => some_has(parts, var),
+            Form::Not(inner) => inner.has(var),
+            Form::Implies(left, right) | Form::Iff(left, right) => left.has(var) || right.has(var),
+            Form::Ex(_, body) | Form::All(_, body) => body.has(var),
+        }
+    }
+}
+
+#[cycle(atom_count)]
+fn count_all(forms: &Forms) -> u32
+    ensures { result ≡ min 65537 (count_each (trees forms.now)) }
+{
+    let mut count = 0;
+    for form in forms.items() {
+        count = count_sum(count, form.atom_count());
+        if count == MOST_COUNTED {
+            return count;
+        }
+    }
+    count
+}
+
+#[cycle(degree_in)]
+fn degree_of_all(forms: &Forms, var: Var) -> u32
+    ensures { result ≡ degree_of_some var.0 (trees forms.now) }
+{
+    let mut degree = 0;
+    for form in forms.items() {
+        degree = degree.max(form.degree_in(var));
+    }
+    degree
+}
+
+#[cycle(has)]
+fn some_has(forms: &Forms, var: Var) -> bool
+    ensures { IsTrue result ↔ SomeHas var.0 (trees forms.now) }
+{
+    for form in forms.items() {
+        if form.has(var) {
+            return true;
+        }
+    }
+    false
+}
+
+#[cfg(test)]
+mod tests {
+    use super::*;
+    use crate::{Atom, OutOfMemory, Sequence, Signs};
+    use std::alloc::Global;
+    use std::test::Fail;
+
+    fn power_is_zero(alloc: Global, var: u32, exponent: u32) -> Result<Form, OutOfMemory>
+        requires { exponent ≤ 65535 }
+    {
+        Ok(Form::Atom(Atom {
+            poly: Poly::power(alloc, Var(var), exponent)?,
+            signs: Signs::of(false, true, false),
+        }))
+    }
+
+    // x0^2 = 0 and [ex x2. not x0 = 0] and [true implies x1^3 = 0] and [false iff false]
+    fn of_many_kinds(alloc: Global) -> Result<Form, OutOfMemory> {
+        let mut parts = Sequence::new(alloc);
+        parts.push(power_is_zero(alloc, 0, 2)?)?;
+        let inner = Form::Not(Box::new(alloc, power_is_zero(alloc, 0, 1)?)?);
+        parts.push(Form::Ex(Var(2), Box::new(alloc, inner)?))?;
+        let right = power_is_zero(alloc, 1, 3)?;
+        parts.push(Form::Implies(Box::new(alloc, Form::True)?, Box::new(alloc, right)?))?;
+        parts.push(Form::Iff(Box::new(alloc, Form::False)?, Box::new(alloc, Form::False)?))?;
+        Ok(Form::And(parts))
+    }
+
+    #[test]
+    fn counts_and_measures(rt: HostRuntime) -> Result<(), Fail> {
+        let form = of_many_kinds(rt.alloc())?;
+        assert_eq!(rt; form.atom_count(), 7);
+        for (var, degree) in [(0, 2), (1, 3), (2, 0)] {
+            assert_eq!(rt; form.degree_in(Var(var)), degree, "degree in {var}");
+            assert_eq!(rt; form.has(Var(var)), degree > 0, "whether {var} occurs");
+        }
+        Ok(())
+    }
+
+    #[test]
+    fn stops_counting(rt: HostRuntime) -> Result<(), Fail> {
+        let mut parts = Sequence::new(rt.alloc());
+        for _turn in 0..65_536 {
+            parts.push(Form::True)?;
+        }
+        let full = Form::Or(parts);
+        assert_eq!(rt; full.atom_count(), 65_536);
+        let mut pair = Sequence::new(rt.alloc());
+        pair.push(full)?;
+        pair.push(Form::And(Sequence::new(rt.alloc())))?;
+        for _turn in 0..3 {
+            pair.push(Form::False)?;
+        }
+        assert_eq!(rt; Form::And(pair).atom_count(), 65_537);
+        Ok(())
+    }
+}
