@@ -1,0 +1,5 @@
+mod Runs
+mod Scanned
+mod Spelled
+pub mod Tokenized
+mod Values
