@@ -1,0 +1,12 @@
+pub mod Spelling
+pub mod Within
+pub mod Chain
+pub mod Made
+pub mod MadeFormula
+pub mod Terms
+pub mod Parts
+pub mod Formulas
+pub mod Atoms
+pub mod First
+pub mod OneFault
+pub mod Small

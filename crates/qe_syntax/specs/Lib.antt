@@ -1,0 +1,6 @@
+pub mod Tree
+pub mod Code
+pub mod Grammar
+pub mod Faults
+pub mod Reading
+pub mod Laws

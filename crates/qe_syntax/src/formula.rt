@@ -1,0 +1,322 @@
+//! The parser of formulas: a method for each nonterminal.
+
+ghost use Rattle.std.specs.Prelude.{◌≡◌, ◌+◌, ◌≤◌, nat_le, true, IfOk, IsSome, OnOk};
+ghost use Rattle.qe_syntax.specs.Code.{formula_of};
+ghost use Rattle.qe_syntax.specs.Grammar.{ended, formula, scope, simple, disj, conj, unary, comparison, formula_tree, scope_tree, simple_tree, disj_tree, conj_tree, unary_tree, atom_tree, bound, linked, constant_tree};
+ghost use Rattle.qe_syntax.specs.Faults.{head};
+ghost use Rattle.qe_syntax.specs.Reading.{Reads, on_term, on_conj, on_disj, on_simple, Tests, Binds, fault_at_limit, quantifier_at, arrow_at, constant_at, is_or, is_and, is_not, is_bracket};
+ghost use Rattle.qe_syntax.specs.declared.fault.TextFault.TheVariants.{Syntax, TooMany};
+
+use crate::cursor::{Cursor, check_level, is_full, is_wide};
+use crate::fault::{Stop, TextFault};
+use crate::{Comparison, Formula, Name, OutOfMemory, Sequence, Token};
+use std::alloc::Global;
+
+/// The atoms, constants and bound names that a text may have.
+const MOST: u32 = 65_536;
+
+/// The tokens that are left, and how many atoms, constants and bound names began before.
+#[derive(Drop)]
+pub struct Parser<'a> {
+    pub cursor: Cursor<'a>,
+    pub begun: u32,
+}
+
+/// The formula that binds a name by `all` or `ex`.
+fn quantified(alloc: Global, all: bool, name: Name, body: Formula) -> Result<Formula, OutOfMemory>
+    ensures { IfOk result (λ f. formula_of f ≡ bound all name (formula_of body)) }
+{
+    let body = Box::new(alloc, body)?;
+    if all {
+        Ok(Formula::All(name, body))
+    } else {
+        Ok(Formula::Ex(name, body))
+    }
+}
+
+/// The formula with `iff` or `implies` between two.
+fn linked(alloc: Global, both: bool, left: Formula, right: Formula) -> Result<Formula, OutOfMemory>
+    ensures { IfOk result (λ f. formula_of f ≡ linked both (formula_of left) (formula_of right)) }
+{
+    let left = Box::new(alloc, left)?;
+    let right = Box::new(alloc, right)?;
+    if both {
+        Ok(Formula::Iff(left, right))
+    } else {
+        Ok(Formula::Implies(left, right))
+    }
+}
+
+/// A constant.
+fn constant_of(value: bool) -> Formula
+    ensures { formula_of result ≡ constant_tree value }
+{
+    if value { Formula::True } else { Formula::False }
+}
+
+impl<'a> Parser<'a> {
+    /// Counts an atom, a constant or a bound name that begins here.
+    fn begin(&mut self) -> Result<(), Stop>
+        ensures same { self.new.cursor.rest.now ≡ self.old.cursor.rest.now }
+        ensures tests { Tests (nat_le 65536 self.old.begun) TooMany result }
+        ensures ok { OnOk result (self.new.begun ≡ self.old.begun + 1) }
+    {
+        if self.begun >= MOST {
+            return Err(Stop::Bad(TextFault::TooMany));
+        }
+        self.begun += 1;
+        Ok(())
+    }
+
+    /// Takes the name that comes next, and opens its level.
+    fn bind(&mut self, depth: u32) -> Result<(), Stop>
+        requires { IsSome (head self.old.cursor.rest.now) }
+        ensures { Binds depth result (head self.old.cursor.rest.now) (ended self.old.cursor.rest.now) (ended self.new.cursor.rest.now) self.old.begun self.new.begun }
+    {
+        check_level(depth)?;
+        self.begin()?;
+        self.cursor.advance();
+        Ok(())
+    }
+
+    /// Whether the quantifier that comes next, if one does, is `all`.
+    fn quantifier(&self) -> Option<bool>
+        ensures { result ≡ quantifier_at (head self.now.cursor.rest.now) }
+    {
+        match self.cursor.peek() {
+            Some(Token::Ex) => Some(false),
+            Some(Token::All) => Some(true),
+            _ => None,
+        }
+    }
+
+    /// Whether the arrow that comes next, if one does, is `iff`.
+    fn arrow(&self) -> Option<bool>
+        ensures { result ≡ arrow_at (head self.now.cursor.rest.now) }
+    {
+        match self.cursor.peek() {
+            Some(Token::Implies) => Some(false),
+            Some(Token::Iff) => Some(true),
+            _ => None,
+        }
+    }
+
+    /// Which constant comes next, if one does.
+    fn constant(&self) -> Option<bool>
+        ensures { result ≡ constant_at (head self.now.cursor.rest.now) }
+    {
+        match self.cursor.peek() {
+            Some(Token::False) => Some(false),
+            Some(Token::True) => Some(true),
+            _ => None,
+        }
+    }
+
+    fn is_or(&self) -> bool
+        ensures { result ≡ is_or (head self.now.cursor.rest.now) }
+    {
+        matches!(self.cursor.peek(), Some(Token::Or))
+    }
+
+    fn is_and(&self) -> bool
+        ensures { result ≡ is_and (head self.now.cursor.rest.now) }
+    {
+        matches!(self.cursor.peek(), Some(Token::And))
+    }
+
+    fn is_not(&self) -> bool
+        ensures { result ≡ is_not (head self.now.cursor.rest.now) }
+    {
+        matches!(self.cursor.peek(), Some(Token::Not))
+    }
+
+    fn is_bracket(&self) -> bool
+        ensures { result ≡ is_bracket (head self.now.cursor.rest.now) }
+    {
+        matches!(self.cursor.peek(), Some(Token::OpenBracket))
+    }
+
+    /// Refuses an operator of terms, behind what is no term.
+    fn refuse_operator(&self) -> Result<(), Stop>
+        ensures { Tests (on_term (head self.now.cursor.rest.now)) Syntax result }
+    {
+        match self.cursor.peek() {
+            Some(Token::Plus(_) | Token::Minus(_) | Token::Star(_) | Token::Caret(_)) => Err(
+                Stop::Bad(TextFault::Syntax),
+            ),
+            _ => Ok(()),
+        }
+    }
+
+    /// The fault of the token that comes next, where an atom should begin and no more may.
+    fn fault_at_limit(&self, depth: u32) -> TextFault
+        ensures { result ≡ fault_at_limit (head self.now.cursor.rest.now) depth }
+    {
+        match self.cursor.peek() {
+            Some(Token::Number(value)) => {
+                if is_wide(value) {
+                    TextFault::Wide
+                } else {
+                    TextFault::TooMany
+                }
+            }
+            Some(Token::Minus(_) | Token::OpenParenthesis) => {
+                if is_full(depth) {
+                    TextFault::TooDeep
+                } else {
+                    TextFault::TooMany
+                }
+            }
+            Some(Token::Name(_)) => TextFault::TooMany,
+            _ => TextFault::Syntax,
+        }
+    }
+
+    /// A formula.
+    #[cycle(formula)]
+    pub fn formula(&mut self, alloc: Global, depth: u32) -> Result<Formula, Stop>
+        requires { depth ≤ 256 }
+        ensures { Reads (formula depth) on_simple formula_tree formula_of result (ended self.old.cursor.rest.now) (ended self.new.cursor.rest.now) self.old.begun self.new.begun }
+    {
+        let Some(all) = self.quantifier() else {
+            return self.simple(alloc, depth);
+        };
+        self.cursor.advance();
+        let Some(name) = self.cursor.name() else {
+            return Err(Stop::Bad(TextFault::Syntax));
+        };
+        self.bind(depth)?;
+        let body = self.scope(alloc, depth + 1, all)?;
+        Ok(quantified(alloc, all, name, body)?)
+    }
+
+    /// What follows a bound name: further names, a dot and a formula.
+    #[cycle(formula)]
+    fn scope(&mut self, alloc: Global, depth: u32, all: bool) -> Result<Formula, Stop>
+        requires { depth ≤ 256 }
+        ensures { Reads (scope depth) on_simple (scope_tree all) formula_of result (ended self.old.cursor.rest.now) (ended self.new.cursor.rest.now) self.old.begun self.new.begun }
+    {
+        let Some(name) = self.cursor.name() else {
+            self.cursor.expect(Token::Dot)?;
+            return self.formula(alloc, depth);
+        };
+        self.bind(depth)?;
+        let body = self.scope(alloc, depth + 1, all)?;
+        Ok(quantified(alloc, all, name, body)?)
+    }
+
+    /// A disjunction, or two with an arrow between them.
+    #[cycle(formula)]
+    fn simple(&mut self, alloc: Global, depth: u32) -> Result<Formula, Stop>
+        requires { depth ≤ 256 }
+        ensures { Reads (simple depth) on_simple simple_tree formula_of result (ended self.old.cursor.rest.now) (ended self.new.cursor.rest.now) self.old.begun self.new.begun }
+    {
+        let left = self.disj(alloc, depth)?;
+        let Some(both) = self.arrow() else {
+            return Ok(left);
+        };
+        self.cursor.advance();
+        let right = self.disj(alloc, depth)?;
+        if self.arrow().is_some() {
+            return Err(Stop::Bad(TextFault::Syntax));
+        }
+        Ok(linked(alloc, both, left, right)?)
+    }
+
+    /// A disjunction, or a conjunction alone.
+    #[cycle(formula)]
+    fn disj(&mut self, alloc: Global, depth: u32) -> Result<Formula, Stop>
+        requires { depth ≤ 256 }
+        ensures { Reads (disj depth) on_disj disj_tree formula_of result (ended self.old.cursor.rest.now) (ended self.new.cursor.rest.now) self.old.begun self.new.begun }
+    {
+        let first = self.conj(alloc, depth)?;
+        if !self.is_or() {
+            return Ok(first);
+        }
+        let mut parts = Sequence::new(alloc);
+        parts.push(first)?;
+        'ors: while self.is_or() {
+            self.cursor.advance();
+            parts.push(self.conj(alloc, depth)?)?;
+        }
+        Ok(Formula::Or(parts))
+    }
+
+    /// A conjunction, or a unary alone.
+    #[cycle(formula)]
+    fn conj(&mut self, alloc: Global, depth: u32) -> Result<Formula, Stop>
+        requires { depth ≤ 256 }
+        ensures { Reads (conj depth) on_conj conj_tree formula_of result (ended self.old.cursor.rest.now) (ended self.new.cursor.rest.now) self.old.begun self.new.begun }
+    {
+        let first = self.unary(alloc, depth)?;
+        if !self.is_and() {
+            return Ok(first);
+        }
+        let mut parts = Sequence::new(alloc);
+        parts.push(first)?;
+        'ands: while self.is_and() {
+            self.cursor.advance();
+            parts.push(self.unary(alloc, depth)?)?;
+        }
+        Ok(Formula::And(parts))
+    }
+
+    /// A negation, a constant, a formula in brackets, or an atom.
+    #[cycle(formula)]
+    fn unary(&mut self, alloc: Global, depth: u32) -> Result<Formula, Stop>
+        requires { depth ≤ 256 }
+        ensures { Reads (unary depth) on_term unary_tree formula_of result (ended self.old.cursor.rest.now) (ended self.new.cursor.rest.now) self.old.begun self.new.begun }
+    {
+        if self.is_not() {
+            check_level(depth)?;
+            self.cursor.advance();
+            let inner = self.unary(alloc, depth + 1)?;
+            return Ok(Formula::Not(Box::new(alloc, inner)?));
+        }
+        if self.is_bracket() {
+            return self.bracket(alloc, depth);
+        }
+        let Some(value) = self.constant() else {
+            return self.atom(alloc, depth);
+        };
+        self.begin()?;
+        self.cursor.advance();
+        self.refuse_operator()?;
+        Ok(constant_of(value))
+    }
+
+    /// A formula in brackets.
+    #[cycle(formula)]
+    fn bracket(&mut self, alloc: Global, depth: u32) -> Result<Formula, Stop>
+        requires fits { depth ≤ 256 }
+        requires opens { is_bracket (head self.old.cursor.rest.now) ≡ true }
+        ensures { Reads (unary depth) on_term unary_tree formula_of result (ended self.old.cursor.rest.now) (ended self.new.cursor.rest.now) self.old.begun self.new.begun }
+    {
+        check_level(depth)?;
+        self.cursor.advance();
+        let inner = self.formula(alloc, depth + 1)?;
+        self.cursor.expect(Token::CloseBracket)?;
+        self.refuse_operator()?;
+        Ok(inner)
+    }
+
+    /// Two terms and a relation between them.
+    fn atom(&mut self, alloc: Global, depth: u32) -> Result<Formula, Stop>
+        requires { depth ≤ 256 }
+        ensures { Reads (comparison depth) on_term atom_tree formula_of result (ended self.old.cursor.rest.now) (ended self.new.cursor.rest.now) self.old.begun self.new.begun }
+    {
+        if self.begun >= MOST {
+            return Err(Stop::Bad(self.fault_at_limit(depth)));
+        }
+        self.begun += 1;
+        let left = self.cursor.term(alloc, depth)?;
+        let (place, relation) = self.cursor.relation()?;
+        let right = self.cursor.term(alloc, depth)?;
+        Ok(Formula::Atom(Comparison {
+            left,
+            place,
+            relation,
+            right,
+        }))
+    }
+}
