@@ -1,0 +1,13 @@
+mod Distinct
+mod Kept
+mod Named
+mod Numbers
+mod Parts
+mod Powers
+mod Ranks
+mod Spelled
+mod Texts
+mod Unique
+mod Valued
+mod Variables
+mod Words

@@ -1,0 +1,85 @@
+-- The formula that a tree stands for, or the first limit that an operation meets.
+use Rattle.std.specs.Prelude.{ℕ, ◌+◌, true, false, List, [], ◌∷◌, ◌++◌, length, Result, Ok, Err, ◌≡◌}
+use Rattle.qe_token.specs.declared.token.Name.{Name}
+use Rattle.qe_token.specs.declared.token.Relation.{Relation}
+use Rattle.qe_token.specs.declared.token.Relation.TheVariants as relation
+use Rattle.qe_syntax.specs.Tree as syntax
+use Rattle.qe_syntax.specs.Tree.{TermTree, FormulaTree, FormulaTrees}
+use Rattle.qe_form.specs.declared.signs.Signs.{Signs}
+use Rattle.qe_form.specs.declared.form.Form as code
+use Rattle.qe_form.specs.Formula.{Formula, Formulas, True, False, Atom, And, Or, Not, Implies, Iff, Ex, All, no_more, more}
+use Rattle.qe_form.specs.Tree.{tree, trees}
+use Rattle.qe_read.specs.declared.value.Met.{Met}
+use Rattle.qe_read.specs.declared.value.ValueStop.{ValueStop}
+use Rattle.qe_read.specs.declared.scope.Binder.{Binder}
+use Rattle.qe_read.specs.Names.{Letters, variable}
+use Rattle.qe_read.specs.Value.{Value, next, value, added, Stops}
+
+-- the signs that the left term less the right one may have
+abbrev pub signs_of : Relation → Signs
+signs_of relation.Equal = record { minus = false; zero = true; plus = false }
+signs_of relation.NotEqual = record { minus = true; zero = false; plus = true }
+signs_of relation.Less = record { minus = true; zero = false; plus = false }
+signs_of relation.LessOrEqual = record { minus = true; zero = true; plus = false }
+signs_of relation.Greater = record { minus = false; zero = false; plus = true }
+signs_of relation.GreaterOrEqual = record { minus = false; zero = true; plus = true }
+
+-- the names that the quantifiers bind, in the order of the text
+abbrev mutual
+  pub bound_names : FormulaTree → List Name
+  bound_names syntax.True = []
+  bound_names syntax.False = []
+  bound_names (syntax.Atom t p r u) = []
+  bound_names (syntax.And fs) = names_bound_in fs
+  bound_names (syntax.Or fs) = names_bound_in fs
+  bound_names (syntax.Not f) = bound_names f
+  bound_names (syntax.Implies f g) = bound_names f ++ bound_names g
+  bound_names (syntax.Iff f g) = bound_names f ++ bound_names g
+  bound_names (syntax.Ex x f) = x ∷ bound_names f
+  bound_names (syntax.All x f) = x ∷ bound_names f
+
+  pub names_bound_in : FormulaTrees → List Name
+  names_bound_in syntax.no_more = []
+  names_bound_in (syntax.more f fs) = bound_names f ++ names_bound_in fs
+
+-- the name, bound after these
+abbrev pub binder : List Letters → List Name → Name → Binder
+binder free bound x = record { name = x; var = record { 0 = length free + length bound } }
+
+-- left and right term, and then their difference at the place of the relation
+abbrev pub atom_value : ℕ → Relation → Value → Value → Result Formula Met
+atom_value p r left right = next left (λ a. next right (λ b. next (added p true a b) (λ d. Ok (Atom (record { poly = d; signs = signs_of r })))))
+
+-- both, one after the other
+abbrev pub pair_value : (Formula → Formula → Formula) → Result Formula Met → Result Formula Met → Result Formula Met
+pair_value join left right = next left (λ f. next right (λ g. Ok (join f g)))
+
+-- The formula of a tree, inside these binders; `bound` are the names that are bound before it in the text.
+-- A variable that is bound has the next number after the free names and these.
+abbrev mutual
+  pub formula : List ℕ → List Letters → List Binder → List Name → FormulaTree → Result Formula Met
+  formula text free enclosing bound syntax.True = Ok True
+  formula text free enclosing bound syntax.False = Ok False
+  formula text free enclosing bound (syntax.Atom t p r u) = atom_value p r (value (variable text free enclosing) t) (value (variable text free enclosing) u)
+  formula text free enclosing bound (syntax.And fs) = next (formulas text free enclosing bound fs) (λ gs. Ok (And gs))
+  formula text free enclosing bound (syntax.Or fs) = next (formulas text free enclosing bound fs) (λ gs. Ok (Or gs))
+  formula text free enclosing bound (syntax.Not f) = next (formula text free enclosing bound f) (λ g. Ok (Not g))
+  formula text free enclosing bound (syntax.Implies f g) = pair_value Implies (formula text free enclosing bound f) (formula text free enclosing (bound ++ bound_names f) g)
+  formula text free enclosing bound (syntax.Iff f g) = pair_value Iff (formula text free enclosing bound f) (formula text free enclosing (bound ++ bound_names f) g)
+  formula text free enclosing bound (syntax.Ex x f) = next (formula text free (enclosing ++ binder free bound x ∷ []) (bound ++ x ∷ []) f) (λ g. Ok (Ex (binder free bound x).var.0 g))
+  formula text free enclosing bound (syntax.All x f) = next (formula text free (enclosing ++ binder free bound x ∷ []) (bound ++ x ∷ []) f) (λ g. Ok (All (binder free bound x).var.0 g))
+
+  pub formulas : List ℕ → List Letters → List Binder → List Name → FormulaTrees → Result Formulas Met
+  formulas text free enclosing bound syntax.no_more = Ok no_more
+  formulas text free enclosing bound (syntax.more f fs) =
+      next (formula text free enclosing bound f) (λ g. next (formulas text free enclosing (bound ++ bound_names f) fs) (λ gs. Ok (more g gs)))
+
+-- the formula, or why there is none; want of memory may come in place of either
+abbrev pub IsForm : Result Formula Met → Result code.Form ValueStop → Type 0
+IsForm v (Ok f) = v ≡ Ok (tree f)
+IsForm v (Err stop) = Stops v stop
+
+-- the same of formulas in order
+abbrev pub AreForms : Result Formulas Met → Result (List code.Form) ValueStop → Type 0
+AreForms v (Ok fs) = v ≡ Ok (trees fs)
+AreForms v (Err stop) = Stops v stop

@@ -1,0 +1,86 @@
+-- The polynomial that a term stands for, or the first limit that an operation meets.
+use Rattle.std.specs.Prelude.{ℕ, zero, suc, ◌-◌, ◌^◌, pos, min, Bool, cond, Option, Some, None, Result, Ok, Err, ◌≡◌}
+use Rattle.qe_coef.specs.declared.Op.TheVariants.{Add, Sub}
+use Rattle.qe_poly.specs.declared.limit.PolyLimit.{PolyLimit}
+use Rattle.qe_poly.specs.declared.monomial.Var.{Var}
+use Rattle.qe_poly.specs.Polynomial.{Polynomial, constant, power_of, negative, sum, difference, product}
+use Rattle.qe_poly.specs.Limits.{sum_limit, product_limit}
+use Rattle.qe_token.specs.declared.token.Name.{Name}
+use Rattle.qe_syntax.specs.Tree.{TermTree, Number, Variable, Negative, Power, Sum, Product, Addends, no_addend, addend, Factors, no_factor, factor}
+use Rattle.qe_read.specs.declared.value.Met.{Met}
+use Rattle.qe_read.specs.declared.value.ValueStop.{ValueStop}
+use Rattle.qe_read.specs.declared.value.ValueStop.TheVariants as stop
+
+-- a polynomial, or the first limit that was met, with the place of its operator
+abbrev pub Value : Type 0
+Value = Result Polynomial Met
+
+-- what follows where there is a result; the first limit stays
+abbrev pub next : {A B : Type 0} → Result A Met → (A → Result B Met) → Result B Met
+next (Ok a) f = f a
+next (Err met) f = Err met
+
+-- the operation at a place, which may meet a limit
+abbrev pub at : ℕ → Option PolyLimit → Polynomial → Value
+at p None result = Ok result
+at p (Some limit) result = Err (record { place = p; limit = limit })
+
+-- the sum, or the difference
+abbrev pub added : ℕ → Bool → Polynomial → Polynomial → Value
+added p minus a b = cond minus (at p (sum_limit Sub a b) (difference a b)) (at p (sum_limit Add a b) (sum a b))
+
+abbrev pub multiplied : ℕ → Polynomial → Polynomial → Value
+multiplied p a b = at p (product_limit a b) (product a b)
+
+-- b times a, n times over
+abbrev pub repeated : ℕ → Polynomial → ℕ → Polynomial → Value
+repeated p a zero b = Ok b
+repeated p a (suc n) b = next (multiplied p b a) (repeated p a n)
+
+-- a to the n: 1, or a multiplied by itself n - 1 times
+abbrev pub raised : ℕ → ℕ → Polynomial → Value
+raised p zero a = Ok (constant (pos 1))
+raised p (suc n) a = repeated p a n a
+
+-- a name's power is that monomial, and any other base is computed and multiplied
+abbrev pub power_value : (Name → Var) → Option Name → Value → ℕ → ℕ → Value
+power_value var (Some x) base p n = Ok (power_of (var x) n)
+power_value var None base p n = next base (raised p n)
+
+abbrev pub name_of : TermTree → Option Name
+name_of (Variable x) = Some x
+name_of t = None
+
+-- a number of a text, which has none above 2^127-1
+abbrev pub literal : ℕ → ℕ
+literal n = min n (2 ^ 127 - 1)
+
+-- Operands come before their operator, from left to right. `var` gives the variables of the names.
+abbrev mutual
+  pub value : (Name → Var) → TermTree → Value
+  value var (Number n) = Ok (constant (pos (literal n)))
+  value var (Variable x) = Ok (power_of (var x) 1)
+  value var (Negative t) = next (value var t) (λ a. Ok (negative a))
+  value var (Power t p n) = power_value var (name_of t) (value var t) p n
+  value var (Sum t us) = next (value var t) (summed var us)
+  value var (Product t us) = next (value var t) (factored var us)
+
+  -- with the later summands
+  pub summed : (Name → Var) → Addends → Polynomial → Value
+  summed var no_addend a = Ok a
+  summed var (addend p minus t us) a = next (value var t) (λ b. next (added p minus a b) (summed var us))
+
+  -- with the later factors
+  pub factored : (Name → Var) → Factors → Polynomial → Value
+  factored var no_factor a = Ok a
+  factored var (factor p t us) a = next (value var t) (λ b. next (multiplied p a b) (factored var us))
+
+-- the stop is what was met first, or want of memory
+abbrev pub Stops : {A : Type 0} → Result A Met → ValueStop → Type 0
+Stops v (stop.Met met) = v ≡ Err met
+Stops v stop.OutOfMemory = Unit {0}
+
+-- the value, or why there is none; want of memory may come in place of either
+abbrev pub IsValue : Value → Result Polynomial ValueStop → Type 0
+IsValue v (Ok p) = v ≡ Ok p
+IsValue v (Err stop) = Stops v stop

@@ -1,0 +1,88 @@
+//! Reads a formula with its names.
+
+ghost use Rattle.std.specs.Prelude.{◌≡◌, ◌+◌, ◌<◌, ◌≤◌, ◌^◌, ◌++◌, List, ℕ, [], length, map, IfOk};
+ghost use Rattle.std.specs.List.{All};
+ghost use Rattle.std.specs.Str.{IsUtf8};
+ghost use Rattle.std.specs.String.{string_bytes};
+ghost use Rattle.qe_form.specs.Formula.{Formula as FormTree};
+ghost use Rattle.qe_form.specs.Tree.{tree};
+ghost use Rattle.qe_syntax.specs.Code.{formula_of};
+ghost use Rattle.qe_read.specs.Names.{Letters, letters as letters_of};
+ghost use Rattle.qe_read.specs.FreeNames.{free_names};
+ghost use Rattle.qe_read.specs.Formula.{bound_names};
+ghost use Rattle.qe_read.specs.Numbered.{IsWellNumbered};
+ghost use Rattle.qe_read.specs.Input.{IsInput, Answers, IsReadAs, AnswersTree};
+
+use crate::fault::ReadFault;
+use crate::formula::read_formula;
+use crate::free_names::FreeNames;
+use crate::occurrence::push_free;
+use crate::scope::{Context, letters};
+use crate::{Input, OutOfMemory};
+use qe_form::Names;
+use qe_syntax::{Formula, Name, parse};
+use qe_token::tokens;
+use std::alloc::Global;
+use std::str;
+
+/// A name of its own memory.
+fn spelled(alloc: Global, letters: &[u8]) -> Result<String, OutOfMemory>
+    requires { IsUtf8 letters.now }
+    ensures { IfOk result (λ name. string_bytes name ≡ letters.now) }
+{
+    match str::from_utf8(letters) {
+        Ok(text) => String::from_str(alloc, text),
+        Err(_) => unreachable!(),
+    }
+}
+
+/// The free names in their order, and then those that are bound.
+fn names_of(alloc: Global, context: &Context, bound: &[Name]) -> Result<Names, OutOfMemory>
+    requires few { length context.now.free.now + length bound.now < 2 ^ 32 }
+    requires free { All IsUtf8 context.now.free.now }
+    requires bound { All (λ x. IsUtf8 (letters_of context.now.text.now x)) bound.now }
+    ensures { IfOk result (λ names. names ≡ context.now.free.now ++ map (letters_of context.now.text.now) bound.now) }
+{
+    let mut names = Names::new(alloc);
+    for free in context.free.names() {
+        names.push(spelled(alloc, free)?)?;
+    }
+    for name in bound {
+        names.push(spelled(alloc, letters(context.text, *name))?)?;
+    }
+    Ok(names)
+}
+
+/// The formula of a tree with its names, or the first limit that an operation meets.
+fn read_tree(alloc: Global, bytes: &[u8], formula: &Formula) -> Result<Input, ReadFault>
+    requires few { length (free_names bytes.now [] (formula_of formula.now)) + length (bound_names (formula_of formula.now)) < 2 ^ 32 }
+    requires free { All (λ x. IsUtf8 (letters_of bytes.now x)) (free_names bytes.now [] (formula_of formula.now)) }
+    requires bound { All (λ x. IsUtf8 (letters_of bytes.now x)) (bound_names (formula_of formula.now)) }
+    ensures { AnswersTree bytes.now (formula_of formula.now) result }
+{
+    let mut occurrences = Vec::new(alloc);
+    push_free(&mut occurrences, bytes, &mut Vec::new(alloc), formula)?;
+    let free = FreeNames::new(alloc, bytes, &occurrences)?;
+    let context = Context {
+        text: bytes,
+        free: &free,
+    };
+    let mut bound = Vec::new(alloc);
+    let form = read_formula(alloc, &context, &mut Vec::new(alloc), &mut bound, formula)?;
+    let names = names_of(alloc, &context, &bound)?;
+    Ok(Input { form, names })
+}
+
+/// Reads a text of at most 1,048,576 bytes: the formula with the names of its variables, or the first fault.
+///
+/// The free names have the numbers from 0 in the order of their bytes, and the bound ones follow in the order of the text.
+pub fn read(alloc: Global, bytes: &[u8]) -> Result<Input, ReadFault>
+    requires { length bytes.now ≤ 1048576 }
+    ensures answers { Answers bytes.now result }
+    ensures well_numbered { IfOk result (λ input. IsWellNumbered (tree input.form) input.names) }
+    ensures only { (f : FormTree) (names : List Letters) → IsInput bytes.now f names → IsReadAs f names result }
+{
+    let tokens = tokens(alloc, bytes)?;
+    let formula = parse(alloc, &tokens, bytes.len() as u32)?;
+    read_tree(alloc, bytes, &formula)
+}
