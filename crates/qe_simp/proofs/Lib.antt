@@ -1,0 +1,10 @@
+pub mod Numbers
+pub mod Lists
+pub mod Atoms
+pub mod Parts
+pub mod Agreement
+pub mod Sizes
+pub mod Merging
+pub mod Sorting
+pub mod Kept
+pub mod Gathered
