@@ -1,0 +1,5 @@
+mod Values
+mod RootValue
+mod SignTable
+mod SignTruth
+mod RootLaws

@@ -1,0 +1,5 @@
+pub mod Outcome
+pub mod Value
+pub mod Shape
+pub mod SignForm
+pub mod Laws

@@ -1,0 +1,25 @@
+-- Formulas of atoms, `and` and `or` of two, over whatever stands at the atoms.
+use Rattle.std.specs.Prelude.{Bool, ◌&&◌, ◌||◌}
+use Rattle.qe_ring.specs.Sign.{Sign}
+use Rattle.qe_poly.specs.Polynomial.{Polynomial}
+use Rattle.qe_form.specs.declared.signs.Signs.{Signs}
+use Rattle.qe_form.specs.Formula.{Formula, Atom, And, Or, no_more, more}
+use Rattle.qe_form.specs.Truth.{has_sign}
+
+-- an atom has an X and the signs that it may have
+pub data Shape (X : Type 0) : Type 0 where
+  atom : X → Signs → Shape X
+  both : Shape X → Shape X → Shape X
+  either : Shape X → Shape X → Shape X
+
+-- over polynomials it is a formula
+abbrev pub formula : Shape Polynomial → Formula
+formula (atom p signs) = Atom (record { poly = p; signs = signs })
+formula (both f g) = And (more (formula f) (more (formula g) no_more))
+formula (either f g) = Or (more (formula f) (more (formula g) no_more))
+
+-- over signs it is true or false
+abbrev pub is_true : Shape Sign → Bool
+is_true (atom s signs) = has_sign signs s
+is_true (both f g) = is_true f && is_true g
+is_true (either f g) = is_true f || is_true g

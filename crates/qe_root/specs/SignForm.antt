@@ -1,0 +1,112 @@
+-- The formula that says of the sign of A + B*sqrt(r) that it is in a set, without the square root: by the signs of A, B, A*B and
+-- N = A^2 - B^2*r.
+use Rattle.std.specs.Prelude.{◌≡◌, ◌↔◌, Bool, true, false, cond, ◌<◌, [], ◌∷◌, Option, None}
+use Rattle.qe_coef.specs.declared.Op.TheVariants.{Sub}
+use Rattle.qe_ring.specs.Sign.{IsNotMinus}
+use Rattle.qe_tower.specs.Number.{Number, IsNumber, sign_of, add, mul, Equal}
+use Rattle.qe_tower.specs.Point.{Point, IsPoint}
+use Rattle.qe_poly.specs.declared.limit.PolyLimit.{PolyLimit}
+use Rattle.qe_poly.specs.Polynomial.{Polynomial, negative, difference, product}
+use Rattle.qe_poly.specs.Limits.{sum_limit, product_limit}
+use Rattle.qe_form.specs.declared.signs.Signs.{Signs}
+use Rattle.qe_form.specs.Signs.{bits}
+use Rattle.qe_form.specs.Formula.{Formula}
+use Rattle.qe_form.specs.Value.{value}
+use Rattle.qe_form.specs.Truth.{has_sign, Is}
+use Rattle.qe_root.specs.Outcome.{first, is_zero}
+use Rattle.qe_root.specs.Value.{triple, triple_limit}
+use Rattle.qe_root.specs.Shape.{Shape, atom, both, either, formula}
+
+-- ---- sets of signs
+
+-- some sign is in the set, and some is not
+abbrev pub IsProper : Signs → Type 0
+IsProper signs = (0 < bits signs) × (bits signs < 7)
+
+abbrev pub less : Signs
+less = record { minus = true; zero = false; plus = false }
+
+abbrev pub at_most : Signs
+at_most = record { minus = true; zero = true; plus = false }
+
+abbrev pub equal : Signs
+equal = record { minus = false; zero = true; plus = false }
+
+abbrev pub not_equal : Signs
+not_equal = record { minus = true; zero = false; plus = true }
+
+abbrev pub at_least : Signs
+at_least = record { minus = false; zero = true; plus = true }
+
+abbrev pub more : Signs
+more = record { minus = false; zero = false; plus = true }
+
+-- ---- the shapes
+
+-- A + B*sqrt(r) = 0: A and B have no common sign, and A^2 = B^2*r
+abbrev pub equal_shape : {X : Type 0} → (e n : X) → Shape X
+equal_shape e n = both (atom e at_most) (atom n equal)
+
+abbrev pub not_equal_shape : {X : Type 0} → (e n : X) → Shape X
+not_equal_shape e n = either (atom e more) (atom n not_equal)
+
+-- A + B*sqrt(r) <= 0: A is not positive and counts for no less, or B is not positive and counts for no less
+abbrev pub at_most_shape : {X : Type 0} → (a b n : X) → Shape X
+at_most_shape a b n = either (both (atom a at_most) (atom n at_least)) (both (atom b at_most) (atom n at_most))
+
+abbrev pub less_shape : {X : Type 0} → (a b n : X) → Shape X
+less_shape a b n = either (both (atom a less) (atom n more)) (both (atom b at_most) (either (atom a less) (atom n less)))
+
+-- `=` where zero is in the set, and else `<>`
+abbrev pub zero_shape : {X : Type 0} → (zero : Bool) → (e n : X) → Shape X
+zero_shape zero e n = cond zero (equal_shape e n) (not_equal_shape e n)
+
+-- `<=` where zero is in the set, and else `<`
+abbrev pub side_shape : {X : Type 0} → (zero : Bool) → (a b n : X) → Shape X
+side_shape zero a b n = cond zero (at_most_shape a b n) (less_shape a b n)
+
+-- for each set of signs; `>` and `>=` are `<` and `<=` of the opposites
+abbrev pub sign_shape : {X : Type 0} → (opposite : X → X) → Signs → (a b e n : X) → Shape X
+sign_shape opposite signs a b e n =
+    cond signs.minus
+    (cond signs.plus (zero_shape signs.zero e n) (side_shape signs.zero a b n))
+    (cond signs.plus (side_shape signs.zero (opposite a) (opposite b) n) (zero_shape signs.zero e n))
+
+-- ---- the formula
+
+-- A^2 - B^2*r
+abbrev pub norm : (a b r : Polynomial) → Polynomial
+norm a b r = difference (product a a) (triple b b r)
+
+-- where B is zero, the atom of A
+abbrev pub sign_formula : (a b r : Polynomial) → Signs → Formula
+sign_formula a b r signs =
+    cond (is_zero b) (formula (atom a signs)) (formula (sign_shape negative signs a b (product a b) (norm a b r)))
+
+-- ---- the first limit
+
+abbrev pub norm_limit : (a b r : Polynomial) → Option PolyLimit
+norm_limit a b r = first (product_limit a a ∷ triple_limit b b r ∷ sum_limit Sub (product a a) (triple b b r) ∷ [])
+
+-- A*B is needed for `=` and `<>`, and comes first there
+abbrev pub zero_form_limit : (a b r : Polynomial) → Option PolyLimit
+zero_form_limit a b r = first (product_limit a b ∷ norm_limit a b r ∷ [])
+
+abbrev pub sign_limit : (a b r : Polynomial) → Signs → Option PolyLimit
+sign_limit a b r signs = cond (is_zero b) None
+    (cond signs.minus
+    (cond signs.plus (zero_form_limit a b r) (norm_limit a b r))
+    (cond signs.plus (norm_limit a b r) (zero_form_limit a b r)))
+
+-- ---- the meaning
+
+-- w is the square root of r that is not negative
+pub record IsSquareRoot (r w : Number) : Type 0 where
+  pub number : IsNumber w
+  pub not-minus : IsNotMinus (sign_of w)
+  pub square : Equal (mul w w) r
+
+-- at every point where r has a square root w, the formula is true where the sign of a + b*w is among the signs, and false where it is not
+abbrev pub IsSignForm : (a b r : Polynomial) → Signs → Formula → Type 0
+IsSignForm a b r signs f = (at : Point) → IsPoint at → (w : Number) → IsSquareRoot (value r at) w
+    → (t : Bool) → Is f t at ↔ (has_sign signs (sign_of (add (value a at) (mul (value b at) w))) ≡ t)
