@@ -1,0 +1,144 @@
+-- Formulas with And and Or over polynomials of degree two at most in one variable, as that variable goes along the line of the numbers.
+use Rattle.std.proofs.Common.{ℕ, ◌≡◌, ◌∙◌, ◌≤◌, inl, inr, ◌↔◌, refl, sym, ap, subst, Bool, true, false, T, ◌∷◌}
+use Rattle.qe_ring.specs.Sign.{Sign}
+use Rattle.qe_tower.specs.Number.{sign_of}
+use Rattle.qe_tower.specs.Point.{Point, IsPoint}
+use Rattle.qe_tower.proofs.ValidNumbers.{ValidNumber, valid_operations, valid_sign, valid_ordered}
+use Rattle.qe_line.specs.Place.{Place, below}
+use Rattle.qe_line.specs.Quadratic.{quadratic, IsRoot, sign_at}
+use Rattle.qe_line.specs.Numbers.{numbers}
+use Rattle.qe_line.proofs.Places.{There, then, both, some}
+use Rattle.qe_line.proofs.Reach.{root_place, Reach, reach_here, reach_then, reach_both}
+use Rattle.qe_line.proofs.SignAt.{sign_is}
+use Rattle.qe_line.proofs.Atoms.{reach_atom}
+use Rattle.qe_poly.specs.Polynomial.{Polynomial, IsPolynomial}
+use Rattle.qe_poly.specs.Coefficients.{degree_in, coefficient_in}
+use Rattle.qe_form.specs.declared.form.Atom as atom
+use Rattle.qe_form.specs.Formula.{Formula, Formulas, True, False, Atom, And, Or, no_more, more}
+use Rattle.qe_form.specs.Value.{value}
+use Rattle.qe_form.specs.Truth.{has_sign, Is, EachIs, SomeIs}
+use Rattle.qe_form.proofs.Values.{value_valid, value_of_quadratic}
+use Rattle.qe_elim.specs.Candidates.{atoms, atoms_of}
+use Rattle.qe_elim.specs.Eliminated.{is_plain, are_plain}
+use Rattle.qe_elim.proofs.Equivalences.{in_both, in_either}
+use Rattle.qe_elim.proofs.Members.{IsIn, in_left, in_right}
+use Rattle.qe_elim.proofs.Folded.{first_true, second_true}
+
+-- two ways to say that a test holds
+true_of : (b : Bool) → T b → b ≡ true
+true_of true h = refl
+true_of false h = absurd h
+
+of_true : (b : Bool) → b ≡ true → T b
+of_true b h = subst (λ c. T c) (sym h) tt
+
+module _ (x : ℕ) (p : Point) (valid : IsPoint p) where
+  -- the point with x given a number
+  abbrev pub at_number : ValidNumber → Point
+  at_number u = (x, u.0) ∷ p
+
+  -- the value of the coefficient of a power of x at the point
+  abbrev pub coefficient : ℕ → Polynomial → ValidNumber
+  coefficient k q = (value (coefficient_in x k q) p, value_valid p valid (coefficient_in x k q))
+
+  -- it holds at the place
+  abbrev pub HoldsThere : Place ValidNumber → (ValidNumber → Type 0) → Type 0
+  HoldsThere k P = There valid_operations valid_sign k P
+
+  -- v is a root of the polynomial in x that has these coefficients at the point
+  abbrev pub IsRootOf : Polynomial → ValidNumber → Type 0
+  IsRootOf q v = IsRoot valid_operations valid_sign (coefficient 2 q) (coefficient 1 q) (coefficient 0 q) v
+
+  -- the sign of that quadratic at a number, and at a place
+  abbrev pub sign_on : Polynomial → ValidNumber → Sign
+  sign_on q v = valid_sign (quadratic valid_operations (coefficient 2 q) (coefficient 1 q) (coefficient 0 q) v)
+
+  abbrev pub sign_at_place : Place ValidNumber → Polynomial → Sign
+  sign_at_place k q = sign_at valid_operations valid_sign k (coefficient 2 q) (coefficient 1 q) (coefficient 0 q)
+
+  -- ---- one polynomial
+
+  -- where x has a number, the polynomial has the sign of the quadratic of its coefficients at the point
+  pub sign_with : (q : Polynomial) → IsPolynomial q → degree_in x q ≤ 2 → (u : ValidNumber)
+      → sign_of (value q (at_number u)) ≡ sign_on q u
+  sign_with q canonical low u = valid_ordered.sign-same (value q (at_number u), value_valid (at_number u) (u.1, valid) q)
+      (quadratic valid_operations (coefficient 2 q) (coefficient 1 q) (coefficient 0 q) u) (value_of_quadratic p valid x u.0 u.1 q canonical low)
+
+  -- and at a place the sign that this quadratic has there
+  pub sign_there : (q : Polynomial) → IsPolynomial q → degree_in x q ≤ 2 → (k : Place ValidNumber)
+      → HoldsThere k (λ u. sign_of (value q (at_number u)) ≡ sign_at_place k q)
+  sign_there q canonical low k = then numbers (sign_is numbers k (coefficient 2 q) (coefficient 1 q) (coefficient 0 q)) (λ u h. sign_with q canonical low u ∙ h)
+
+  -- ---- how far down from a number a formula is true
+
+  module _ (K : Place ValidNumber → Type 0) (low : K below) (v : ValidNumber) where
+    -- where the formula is true at v, it is so down to a place of which K holds
+    abbrev pub Reaches : Formula → Type 0
+    Reaches f = Is f true (at_number v) → Reach valid_operations valid_sign K v (λ u. Is f true (at_number u))
+
+    -- an atom reaches, where K holds at the roots of its polynomial if zero is allowed, and else just above them
+    pub atom_reaches : (a : atom.Atom) → IsPolynomial a.poly → degree_in x a.poly ≤ 2 → ((r : ValidNumber) → IsRootOf a.poly r → K (root_place a.signs.zero r)) → Reaches (Atom a)
+    atom_reaches a canonical small roots t = reach_then numbers
+        (reach_atom numbers low (coefficient 2 a.poly) (coefficient 1 a.poly) (coefficient 0 a.poly) (has_sign a.signs) roots v
+        (of_true (has_sign a.signs (valid_sign (value_at v))) (sym (ap (has_sign a.signs) (sign_with a.poly canonical small v)) ∙ t)))
+        (λ u e. ap (has_sign a.signs) (sign_with a.poly canonical small u) ∙ true_of (has_sign a.signs (valid_sign (value_at u))) e)
+      where
+        value_at : ValidNumber → ValidNumber
+        value_at u = quadratic valid_operations (coefficient 2 a.poly) (coefficient 1 a.poly) (coefficient 0 a.poly) u
+
+    mutual
+      -- a formula reaches where its atoms do
+      pub formula_reaches : (f : Formula) → is_plain f ≡ true → ((a : atom.Atom) → IsIn a (atoms f) → Reaches (Atom a)) → Reaches f
+      formula_reaches True plain h t = reach_here numbers low (λ u. t)
+      formula_reaches False plain h t = absurd (cc)
+      formula_reaches (Atom a) plain h t = h a (inl refl) t
+      formula_reaches (And fs) plain h t = each_reaches fs plain h t
+      formula_reaches (Or fs) plain h t = some_reaches fs plain h t
+      formula_reaches f plain h t = absurd (cc)
+
+      each_reaches : (fs : Formulas) → are_plain fs ≡ true → ((a : atom.Atom) → IsIn a (atoms_of fs) → Reaches (Atom a))
+          → EachIs fs true (at_number v) → Reach valid_operations valid_sign K v (λ u. EachIs fs true (at_number u))
+      each_reaches no_more plain h t = reach_here numbers low (λ u. tt)
+      each_reaches (more f fs) plain h t = reach_both numbers
+          (formula_reaches f (first_true (is_plain f) (are_plain fs) plain) (λ a i. h a (in_left a (atoms f) (atoms_of fs) i)) t.0)
+          (each_reaches fs (second_true (is_plain f) (are_plain fs) plain) (λ a i. h a (in_right a (atoms f) (atoms_of fs) i)) t.1)
+
+      some_reaches : (fs : Formulas) → are_plain fs ≡ true → ((a : atom.Atom) → IsIn a (atoms_of fs) → Reaches (Atom a))
+          → SomeIs fs true (at_number v) → Reach valid_operations valid_sign K v (λ u. SomeIs fs true (at_number u))
+      some_reaches no_more plain h t = absurd t
+      some_reaches (more f fs) plain h t = elim t [
+        | inl k ↦ reach_then numbers (formula_reaches f (first_true (is_plain f) (are_plain fs) plain) (λ a i. h a (in_left a (atoms f) (atoms_of fs) i)) k) (λ u e. inl e)
+        | inr k ↦ reach_then numbers (some_reaches fs (second_true (is_plain f) (are_plain fs) plain) (λ a i. h a (in_right a (atoms f) (atoms_of fs) i)) k) (λ u e. inr e)
+      ]
+
+  -- ---- a formula that stands for another at a place
+
+  module _ (k : Place ValidNumber) where
+    -- at the place, f is true where g is true at the point
+    abbrev pub StandsFor : Formula → Formula → Type 0
+    StandsFor f g = HoldsThere k (λ u. Is f true (at_number u) ↔ Is g true p)
+
+    abbrev pub StandForEach : Formulas → Formulas → Type 0
+    StandForEach fs gs = HoldsThere k (λ u. EachIs fs true (at_number u) ↔ EachIs gs true p)
+
+    abbrev pub StandForSome : Formulas → Formulas → Type 0
+    StandForSome fs gs = HoldsThere k (λ u. SomeIs fs true (at_number u) ↔ SomeIs gs true p)
+
+    pub each_more : (f g : Formula) (fs gs : Formulas) → StandsFor f g → StandForEach fs gs → StandForEach (more f fs) (more g gs)
+    each_more f g fs gs h m = then numbers (both numbers h m) (λ u e. in_both e.0 e.1)
+
+    pub some_more : (f g : Formula) (fs gs : Formulas) → StandsFor f g → StandForSome fs gs → StandForSome (more f fs) (more g gs)
+    some_more f g fs gs h m = then numbers (both numbers h m) (λ u e. in_either e.0 e.1)
+
+    -- an atom, where it is known at the place which sign its polynomial has
+    pub atom_stands : (a : atom.Atom) (s : Sign) (g : Formula) → HoldsThere k (λ u. sign_of (value a.poly (at_number u)) ≡ s)
+        → (has_sign a.signs s ≡ true) ↔ Is g true p → StandsFor (Atom a) g
+    atom_stands a s g h e = then numbers h (λ u q. ((λ t. e.0 (sym (ap (has_sign a.signs) q) ∙ t)), (λ t. ap (has_sign a.signs) q ∙ e.1 t)))
+
+    -- what stands for a formula that is true at the place is true at the point
+    pub true_at_point : (f g : Formula) → StandsFor f g → HoldsThere k (λ u. Is f true (at_number u)) → Is g true p
+    true_at_point f g h t = let w = some numbers (both numbers h t) in w.1.0.0 w.1.1
+
+    -- and back
+    pub true_at_place : (f g : Formula) → StandsFor f g → Is g true p → HoldsThere k (λ u. Is f true (at_number u))
+    true_at_place f g h t = then numbers h (λ u e. e.1 t)
