@@ -5,7 +5,7 @@
 ghost use Rattle.std.specs.Prelude.{◌≡◌, ◌≢◌, ◌∷◌, [], map, IfOk, IsErr};
 ghost use Rattle.std.specs.String.{string_bytes};
 
-use qe_program::outside::{OutOfMemory, Sink, Source, StdSink, StdSource};
+use qe_base::{OutOfMemory, Sink, Source, StdSink, StdSource};
 use qe_program::{Status, run_alone};
 use std::alloc::Global;
 use std::env;

@@ -5,15 +5,14 @@ use Rattle.std.specs.declared.alloc.AllocError.{AllocError}
 use Rattle.qe_program.specs.declared.reply.Reply.{Reply}
 use Rattle.qe_program.specs.declared.status.Status.{Status}
 use Rattle.qe_program.specs.declared.status.Status.TheVariants as status
-use Rattle.qe_program.specs.Count.{Rose}
-use Rattle.qe_program.specs.Source.{LosesAll, HasMoreThan}
-use Rattle.qe_program.specs.Sink.{AppendsUpTo}
-use Rattle.qe_program.specs.Input.{IsNotBuilt}
-use Rattle.qe_program.specs.Output.{not_built_line}
+use Rattle.qe_base.specs.Count.{Rose}
+use Rattle.qe_base.specs.Source.{LosesAll, HasMoreThan}
+use Rattle.qe_base.specs.Sink.{AppendsUpTo}
+use Rattle.qe_program.specs.Output.{too_long_line}
 use Rattle.qe_program.specs.Headline.{Headline}
-use Rattle.qe_program.specs.Causes.{Run, Wrote, WroteNothing, IsOutput, WroteFront, Causes}
-use Rattle.qe_program.specs.Reply.{Replies, Delivers}
-use Rattle.qe_program.proofs.Replied.{too_long}
+use Rattle.qe_program.specs.Refusal.{IsAnswered, IsSo, IsRefusal}
+use Rattle.qe_program.specs.Causes.{Run, Wrote, WroteNothing, IsWithin, WroteRefusal, IsOutput, WroteFront, Causes}
+use Rattle.qe_program.specs.Reply.{Says, Replies, Delivers}
 
 -- what is said of the bytes that are told
 where_told : (told : Option (List ℕ)) (P Q : List ℕ → Type 0) → ((bytes : List ℕ) → P bytes → Q bytes) → IfSome told P → IfSome told Q
@@ -25,16 +24,17 @@ always_told None Q f = tt
 always_told (Some bytes) Q f = f bytes
 
 module _ (run : Run) (answer : Status) where
-  by_ok : answer ≡ status.Ok → run.words ≡ 0 → IfSome run.left (λ _. run.left_after ≡ Some []) → Causes run answer
+  by_ok : answer ≡ status.Ok → run.words ≡ 0 → IfSome run.left (λ bytes. IsWithin bytes × (run.left_after ≡ Some [])) → Causes run answer
   by_ok is no_words ended = record {
     ok = λ e. (no_words, ended);
     usage = λ e. absurd (cc);
     read_fault = λ e. absurd (cc);
+    input_too_long = λ e. absurd (cc);
     bad_input = λ e. absurd (cc);
     write_fault = λ e. absurd (cc);
     out_of_memory = λ e. absurd (cc);
-    no_other = ((λ e. cc), (λ e. cc), (λ e. cc), (λ e. cc), (λ e. cc), (λ e. cc));
-    complete = λ e. always_told run.left _ (λ bytes f i r w. inl is);
+    no_other = ((λ e. cc), (λ e. cc), (λ e. cc), (λ e. cc), (λ e. cc));
+    complete = λ e. always_told run.left _ (λ bytes few i r w. inl is);
   }
 
   by_memory : answer ≡ status.OutOfMemory → WroteNothing run → Causes run answer
@@ -42,23 +42,38 @@ module _ (run : Run) (answer : Status) where
     ok = λ e. absurd (cc);
     usage = λ e. absurd (cc);
     read_fault = λ e. absurd (cc);
+    input_too_long = λ e. absurd (cc);
     bad_input = λ e. absurd (cc);
     write_fault = λ e. absurd (cc);
     out_of_memory = λ e. nothing;
-    no_other = ((λ e. cc), (λ e. cc), (λ e. cc), (λ e. cc), (λ e. cc), (λ e. cc));
-    complete = λ e. always_told run.left _ (λ bytes f i r w. inr is);
+    no_other = ((λ e. cc), (λ e. cc), (λ e. cc), (λ e. cc), (λ e. cc));
+    complete = λ e. always_told run.left _ (λ bytes few i r w. inr is);
   }
 
-  by_bad_input : answer ≡ status.BadInput → run.words ≡ 0 → IfSome run.left IsNotBuilt → Wrote run not_built_line → Causes run answer
-  by_bad_input is no_words bad wrote = record {
+  by_too_long : answer ≡ status.InputTooLong → run.words ≡ 0 → HasMoreThan 1048576 run.left → Wrote run too_long_line → Causes run answer
+  by_too_long is no_words many wrote = record {
     ok = λ e. absurd (cc);
     usage = λ e. absurd (cc);
     read_fault = λ e. absurd (cc);
-    bad_input = λ e. (no_words, bad, wrote);
+    input_too_long = λ e. (no_words, many, wrote);
+    bad_input = λ e. absurd (cc);
     write_fault = λ e. absurd (cc);
     out_of_memory = λ e. absurd (cc);
-    no_other = ((λ e. cc), (λ e. cc), (λ e. cc), (λ e. cc), (λ e. cc), (λ e. cc));
-    complete = λ e. where_told run.left IsNotBuilt _ (λ bytes not_built f i r w. absurd (not_built f i)) bad;
+    no_other = ((λ e. cc), (λ e. cc), (λ e. cc), (λ e. cc), (λ e. cc));
+    complete = λ e. where_told run.left _ _ (λ bytes more few i r w. absurd (omega arith)) many;
+  }
+
+  by_bad_input : answer ≡ status.BadInput → run.words ≡ 0 → WroteRefusal run → IfSome run.left (λ bytes. IsAnswered bytes → ⊥) → Causes run answer
+  by_bad_input is no_words wrote none = record {
+    ok = λ e. absurd (cc);
+    usage = λ e. absurd (cc);
+    read_fault = λ e. absurd (cc);
+    input_too_long = λ e. absurd (cc);
+    bad_input = λ e. (no_words, wrote);
+    write_fault = λ e. absurd (cc);
+    out_of_memory = λ e. absurd (cc);
+    no_other = ((λ e. cc), (λ e. cc), (λ e. cc), (λ e. cc), (λ e. cc));
+    complete = λ e. where_told run.left _ _ (λ bytes none few i r w. absurd (none i)) none;
   }
 
   by_write_fault : answer ≡ status.WriteFault → Rose run.write_faults run.write_faults_after → WroteFront run → Causes run answer
@@ -66,11 +81,12 @@ module _ (run : Run) (answer : Status) where
     ok = λ e. absurd (cc);
     usage = λ e. absurd (cc);
     read_fault = λ e. absurd (cc);
+    input_too_long = λ e. absurd (cc);
     bad_input = λ e. absurd (cc);
     write_fault = λ e. (rose, front);
     out_of_memory = λ e. absurd (cc);
-    no_other = ((λ e. cc), (λ e. cc), (λ e. cc), (λ e. cc), (λ e. cc), (λ e. cc));
-    complete = λ e. always_told run.left _ (λ bytes f i r w. absurd (w rose));
+    no_other = ((λ e. cc), (λ e. cc), (λ e. cc), (λ e. cc), (λ e. cc));
+    complete = λ e. always_told run.left _ (λ bytes few i r w. absurd (w rose));
   }
 
 -- ---- what delivering a reply comes to
@@ -83,26 +99,32 @@ abbrev Delivered : Run → Result Reply AllocError → Status → Type 0
 Delivered run reply answer = Delivers reply answer run.taken run.taken_after run.write_faults run.write_faults_after
 
 -- the reply to bytes that were read to the end
-pub answered : (run : Run) (bytes : List ℕ) (reply : Result Reply AllocError) (answer : Status) → run.words ≡ 0 → LosesAll run.left run.left_after bytes → IfOk reply (Replies bytes) → Delivered run reply answer → Causes run answer
-answered run bytes (Err e) answer no_words all replies d = by_memory run answer d.0 d.1
-answered run bytes (Ok reply) answer no_words all replies d =
+pub answered : (run : Run) (bytes : List ℕ) (reply : Result Reply AllocError) (answer : Status) → run.words ≡ 0 → LosesAll run.left run.left_after bytes → IsWithin bytes → IfOk reply (Replies bytes) → Delivered run reply answer → Causes run answer
+answered run bytes (Err e) answer no_words all few replies d = by_memory run answer d.0 d.1
+answered run bytes (Ok reply) answer no_words all few replies d =
     elim replies [
       | inl good ↦ elim d [
-        | inl whole ↦ by_ok run answer (whole.0 ∙ good.0) no_words (where_told run.left _ _ (λ told h. h.1) all)
-        | inr cut ↦ cut_off run answer reply.text.items (inr (no_words, where_told run.left _ _ (λ told h. inl (subst (λ b. Headline b reply.text.items) h.0 good.1)) all)) cut
+        | inl whole ↦ by_ok run answer (whole.0 ∙ good.0) no_words (where_told run.left _ _ (λ told h. (subst IsWithin h.0 few, h.1)) all)
+        | inr cut ↦ cut_off run answer reply.text.items (inr (no_words, where_told run.left _ _ (λ told h. inl (subst IsWithin h.0 few, inl (subst (λ b. Headline b reply.text.items) h.0 good.1))) all)) cut
       ]
       | inr bad ↦ elim d [
-        | inl whole ↦ by_bad_input run answer (whole.0 ∙ bad.0) no_words (where_told run.left _ _ (λ told h. subst IsNotBuilt h.0 bad.1) all) (subst (λ text. Wrote run text) bad.2 whole.1)
-        | inr cut ↦ cut_off run answer reply.text.items (inr (no_words, where_told run.left _ _ (λ told h. inr (subst IsNotBuilt h.0 bad.1, bad.2)) all)) cut
+        | inl whole ↦ by_bad_input run answer (whole.0 ∙ bad.0) no_words
+            (record {
+              why = bad.1.why;
+              reason = bad.1.reason;
+              is_so = where_told run.left _ _ (λ told h. (subst IsWithin h.0 few, subst (λ b. IsSo b bad.1.why) h.0 bad.1.is_so)) all;
+              wrote = subst (λ text. Wrote run text) bad.1.written whole.1;
+            })
+            (where_told run.left _ _ (λ told h. subst (λ b. IsAnswered b → ⊥) h.0 bad.2) all)
+        | inr cut ↦ cut_off run answer reply.text.items (inr (no_words, where_told run.left _ _ (λ told h. inl (subst IsWithin h.0 few, inr (subst (λ b. IsRefusal b reply.text.items) h.0 bad.1))) all)) cut
       ]
     ]
 
--- the refusal of bytes that were too many to be read
-pub refused_unread : (run : Run) (reply : Result Reply AllocError) (answer : Status) → run.words ≡ 0 → HasMoreThan 1048576 run.left → IfOk reply (λ r. (r.status ≡ status.BadInput) × (r.text.items ≡ not_built_line)) → Delivered run reply answer → Causes run answer
-refused_unread run (Err e) answer no_words many is d = by_memory run answer d.0 d.1
-refused_unread run (Ok reply) answer no_words many is d =
-    let bad : IfSome run.left IsNotBuilt = where_told run.left _ _ (λ told h. too_long told (omega (arith, h))) many in
+-- the reply to bytes that were too many
+pub too_many : (run : Run) (reply : Result Reply AllocError) (answer : Status) → run.words ≡ 0 → HasMoreThan 1048576 run.left → IfOk reply (Says status.InputTooLong too_long_line) → Delivered run reply answer → Causes run answer
+too_many run (Err e) answer no_words many is d = by_memory run answer d.0 d.1
+too_many run (Ok reply) answer no_words many is d =
     elim d [
-      | inl whole ↦ by_bad_input run answer (whole.0 ∙ is.0) no_words bad (subst (λ text. Wrote run text) is.1 whole.1)
-      | inr cut ↦ cut_off run answer reply.text.items (inr (no_words, where_told run.left _ _ (λ told n. inr (n, is.1)) bad)) cut
+      | inl whole ↦ by_too_long run answer (whole.0 ∙ is.0) no_words many (subst (λ text. Wrote run text) is.1 whole.1)
+      | inr cut ↦ cut_off run answer reply.text.items (inr (no_words, where_told run.left _ _ (λ told more. inr (more, is.1)) many)) cut
     ]

@@ -1,7 +1,2 @@
-pub mod Transfers
-pub mod Scanned
-pub mod Compared
-pub mod Differences
-pub mod Decided
 pub mod Replied
 pub mod Caused

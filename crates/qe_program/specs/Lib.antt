@@ -1,15 +1,6 @@
-pub mod Count
-pub mod Source
-pub mod Sink
-pub mod Memory
-pub mod Standard
-pub mod Scan
-pub mod Comparison
-pub mod Reading
-pub mod Input
-pub mod Decide
 pub mod Status
 pub mod Output
 pub mod Headline
+pub mod Refusal
 pub mod Causes
 pub mod Reply

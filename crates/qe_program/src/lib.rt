@@ -2,9 +2,7 @@
 //! Knows no threads.
 #![tactic(auto)]
 
-mod comparison;
-mod decide;
-pub mod outside;
+mod fault;
 mod reply;
 mod status;
 #[cfg(test)]

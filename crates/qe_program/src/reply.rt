@@ -1,24 +1,17 @@
 //! The text for an input, made whole before any of it is written.
 
-ghost use Rattle.std.specs.Prelude.{◌≡◌, IfOk};
-ghost use Rattle.qe_form.specs.Same.{Same};
+ghost use Rattle.std.specs.Prelude.{◌≡◌, ◌≤◌, length, IfOk};
 ghost use Rattle.qe_form.specs.Tree.{tree};
-ghost use Rattle.qe_program.specs.Decide.{IsOnNumber, IsDecided};
-ghost use Rattle.qe_program.specs.Headline.{IsAnswer};
-ghost use Rattle.qe_program.specs.Input.{HasLiterals, formula_of};
-ghost use Rattle.qe_program.specs.Reply.{Replies, Delivers};
-ghost use Rattle.qe_program.specs.Output.{line, usage_line, not_built_line};
+ghost use Rattle.qe_program.specs.Reply.{Says, RepliesToFormula, RepliesToFault, Replies, Delivers};
+ghost use Rattle.qe_program.specs.Output.{line, usage_line, too_long_line, not_built_line};
 
-use crate::comparison::{Comparison, read_comparison};
-use crate::decide::decided;
-use crate::outside::{OutOfMemory, Sink, write_all};
+use crate::fault::fault_line;
 use crate::status::Status;
-use qe_form::Form;
+use qe_base::{OutOfMemory, Sink, write_all};
+use qe_elim::{LinearStop, eliminate_linear};
 use qe_print::form_text;
+use qe_read::{Input, ReadFault, read};
 use std::alloc::Global;
-
-/// The most bytes of an input that is taken.
-const INPUT_LIMIT: usize = 4096;
 
 /// A status, and the text that is written for it.
 #[derive(Drop)]
@@ -38,7 +31,7 @@ fn line(alloc: Global, text: &str) -> Result<Vec<u8>, OutOfMemory>
 
 /// The reply to words that give no job.
 pub fn usage(alloc: Global) -> Result<Reply, OutOfMemory>
-    ensures { IfOk result (λ reply. (reply.status ≡ Status.Usage) × (reply.text.items ≡ usage_line)) }
+    ensures { IfOk result (Says Status.Usage usage_line) }
 {
     let text = line(
         alloc,
@@ -50,9 +43,19 @@ pub fn usage(alloc: Global) -> Result<Reply, OutOfMemory>
     })
 }
 
-/// The reply to an input that is not taken yet.
-pub fn not_built(alloc: Global) -> Result<Reply, OutOfMemory>
-    ensures { IfOk result (λ reply. (reply.status ≡ Status.BadInput) × (reply.text.items ≡ not_built_line)) }
+/// The reply to more bytes than are read.
+pub fn too_long(alloc: Global) -> Result<Reply, OutOfMemory>
+    ensures { IfOk result (Says Status.InputTooLong too_long_line) }
+{
+    Ok(Reply {
+        status: Status::InputTooLong,
+        text: line(alloc, "input too long: more than 1048576 bytes")?,
+    })
+}
+
+/// The reply to a formula that is not eliminated so far.
+fn not_built(alloc: Global) -> Result<Reply, OutOfMemory>
+    ensures { IfOk result (Says Status.BadInput not_built_line) }
 {
     Ok(Reply {
         status: Status::BadInput,
@@ -60,48 +63,42 @@ pub fn not_built(alloc: Global) -> Result<Reply, OutOfMemory>
     })
 }
 
-/// The formula without quantifiers that means the same as an atom on a number.
-#[tactic(auto, using(crate::proofs::Decided::same_as_true, crate::proofs::Decided::same_as_false))]
-fn solved(form: &Form) -> Form
-    requires { IsOnNumber (tree form.now) }
-    ensures same { Same (tree form.now) (tree result) }
-    ensures decided { IsDecided (tree result) }
+/// The reply to the first fault of an input.
+fn refusal(alloc: Global, fault: &ReadFault) -> Result<Reply, OutOfMemory>
+    ensures { IfOk result (RepliesToFault fault.now) }
 {
-    let Form::Atom(atom) = form else {
-        unreachable!();
-    };
-    match decided(atom) {
-        Some(true) => Form::True,
-        Some(false) => Form::False,
-        None => unreachable!(),
-    }
+    Ok(Reply {
+        status: Status::BadInput,
+        text: fault_line(alloc, fault)?,
+    })
 }
 
-/// The answer to a comparison.
-fn answer_to(alloc: Global, comparison: &Comparison) -> Result<Reply, OutOfMemory>
-    requires { HasLiterals comparison.now }
-    ensures { IfOk result (λ reply. (reply.status ≡ Status.Ok) × IsAnswer (formula_of comparison.now) reply.text.items) }
+/// The reply to a formula with its names.
+fn answer_to(alloc: Global, input: &Input) -> Result<Reply, OutOfMemory>
+    ensures { IfOk result (RepliesToFormula (tree input.now.form) input.now.names) }
 {
-    let input = comparison.input(alloc)?;
-    let answer = solved(&input.form);
-    let mut text = form_text(alloc, &answer, &input.names)?;
-    text.push(b'\n')?;
-    Ok(Reply {
-        status: Status::Ok,
-        text,
-    })
+    match eliminate_linear(alloc, &input.form) {
+        Ok(answer) => {
+            let mut text = form_text(alloc, &answer, &input.names)?;
+            text.push(b'\n')?;
+            Ok(Reply {
+                status: Status::Ok,
+                text,
+            })
+        }
+        Err(LinearStop::NotBuilt) => not_built(alloc),
+        Err(LinearStop::OutOfMemory) => Err(OutOfMemory),
+    }
 }
 
 /// The reply to the bytes of an input.
 pub fn reply_to(alloc: Global, bytes: &[u8]) -> Result<Reply, OutOfMemory>
+    requires { length bytes.now ≤ 1048576 }
     ensures { IfOk result (Replies bytes.now) }
 {
-    if bytes.len() > INPUT_LIMIT {
-        return not_built(alloc);
-    }
-    match read_comparison(bytes) {
-        Some(comparison) => answer_to(alloc, &comparison),
-        None => not_built(alloc),
+    match read(alloc, bytes) {
+        Ok(input) => answer_to(alloc, &input),
+        Err(fault) => refusal(alloc, &fault),
     }
 }
 

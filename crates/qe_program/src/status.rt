@@ -14,7 +14,7 @@ pub enum Status {
     ReadFault,
     /// The input has more bytes than are read.
     InputTooLong,
-    /// The input is no formula that can be taken.
+    /// The input has a fault, or its formula is not eliminated so far.
     BadInput,
     /// A formula would have too many atoms.
     TooLarge,

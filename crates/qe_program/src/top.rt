@@ -5,9 +5,9 @@ ghost use Rattle.std.specs.Io.KnownBytes.{Appends};
 ghost use Rattle.qe_program.specs.Headline.{Headline};
 ghost use Rattle.qe_program.specs.Causes.{Causes};
 
-use crate::outside::{ReadStop, Sink, Source, read_all};
-use crate::reply::{deliver, not_built, reply_to, usage};
+use crate::reply::{deliver, reply_to, too_long, usage};
 use crate::status::Status;
+use qe_base::{ReadStop, Sink, Source, read_all};
 use std::alloc::Global;
 
 /// Does all that the program does, with one worker: reads an input from the source, and writes the answer, or the line
@@ -46,7 +46,7 @@ pub fn run_alone<S: Source, K: Sink>(
     }
     match read_all(alloc, source) {
         Ok(bytes) => deliver(sink, reply_to(alloc, &bytes)),
-        Err(ReadStop::TooLong) => deliver(sink, not_built(alloc)),
+        Err(ReadStop::TooLong) => deliver(sink, too_long(alloc)),
         Err(ReadStop::Fault) => Status::ReadFault,
         Err(ReadStop::OutOfMemory) => Status::OutOfMemory,
     }
