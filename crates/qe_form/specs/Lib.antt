@@ -4,6 +4,7 @@ pub mod Tree
 pub mod Value
 pub mod Truth
 pub mod Same
+pub mod Plain
 pub mod Measures
 pub mod Order
 pub mod Fed

@@ -1,5 +1,5 @@
 -- Sets of signs, each as a record that says of minus, zero and plus whether it is in the set.
-use Rattle.std.specs.Prelude.{ℕ, Bool, not, ◌&&◌, ◌||◌, ◌+◌, ◌*◌, if◌then◌else◌}
+use Rattle.std.specs.Prelude.{ℕ, Bool, not, ◌&&◌, ◌||◌, ◌+◌, ◌*◌, ◌<◌, if◌then◌else◌}
 use Rattle.qe_form.specs.declared.signs.Signs.{Signs}
 
 -- 1 for a sign that is in the set, and 0 for one that is not
@@ -25,3 +25,7 @@ complement s = record { plus = not s.plus; zero = not s.zero; minus = not s.minu
 -- minus and plus change places, as the signs of the negatives
 abbrev pub mirror : Signs → Signs
 mirror s = record { plus = s.minus; zero = s.zero; minus = s.plus }
+
+-- some sign is in the set, and some is not
+abbrev pub IsProper : Signs → Type 0
+IsProper signs = (0 < bits signs) × (bits signs < 7)

@@ -5,7 +5,8 @@ use Rattle.qe_ring.proofs.Finite.{any, given, Claim, decide, is-eq}
 use Rattle.qe_form.specs.declared.signs.Signs.{Signs}
 use Rattle.qe_form.specs.Truth.{has_sign}
 use Rattle.qe_root.specs.Shape.{is_true}
-use Rattle.qe_root.specs.SignForm.{IsProper, zero_shape, side_shape, sign_shape}
+use Rattle.qe_form.specs.Signs.{IsProper}
+use Rattle.qe_root.specs.SignForm.{zero_shape, side_shape, sign_shape}
 
 abbrev same_bool : Bool → Bool → Bool
 same_bool true b = b

@@ -21,7 +21,8 @@ use Rattle.qe_form.specs.Truth.{has_sign, Is}
 use Rattle.qe_form.proofs.Values.{value_of_negative, value_of_product}
 use Rattle.qe_root.specs.Outcome.{IsOutcome}
 use Rattle.qe_root.specs.Shape.{Shape, atom, both, either, formula, is_true}
-use Rattle.qe_root.specs.SignForm.{IsProper, sign_shape, side_shape, zero_shape, norm, sign_formula, IsSquareRoot, IsSignForm}
+use Rattle.qe_form.specs.Signs.{IsProper}
+use Rattle.qe_root.specs.SignForm.{sign_shape, side_shape, zero_shape, norm, sign_formula, IsSquareRoot, IsSignForm}
 use Rattle.qe_root.proofs.Values.{polynomial_operations, valid_value, value_means}
 use Rattle.qe_root.proofs.SignTable.{table}
 

@@ -1,6 +1,6 @@
 -- The formula that says of the sign of A + B*sqrt(r) that it is in a set, without the square root: by the signs of A, B, A*B and
 -- N = A^2 - B^2*r.
-use Rattle.std.specs.Prelude.{◌≡◌, ◌↔◌, Bool, true, false, cond, ◌<◌, [], ◌∷◌, Option, None}
+use Rattle.std.specs.Prelude.{◌≡◌, ◌↔◌, Bool, true, false, cond, [], ◌∷◌, Option, None}
 use Rattle.qe_coef.specs.declared.Op.TheVariants.{Sub}
 use Rattle.qe_ring.specs.Sign.{IsNotMinus}
 use Rattle.qe_tower.specs.Number.{Number, IsNumber, sign_of, add, mul, Equal}
@@ -9,7 +9,6 @@ use Rattle.qe_poly.specs.declared.limit.PolyLimit.{PolyLimit}
 use Rattle.qe_poly.specs.Polynomial.{Polynomial, negative, difference, product}
 use Rattle.qe_poly.specs.Limits.{sum_limit, product_limit}
 use Rattle.qe_form.specs.declared.signs.Signs.{Signs}
-use Rattle.qe_form.specs.Signs.{bits}
 use Rattle.qe_form.specs.Formula.{Formula}
 use Rattle.qe_form.specs.Value.{value}
 use Rattle.qe_form.specs.Truth.{has_sign, Is}
@@ -18,10 +17,6 @@ use Rattle.qe_root.specs.Value.{triple, triple_limit}
 use Rattle.qe_root.specs.Shape.{Shape, atom, both, either, formula}
 
 -- ---- sets of signs
-
--- some sign is in the set, and some is not
-abbrev pub IsProper : Signs → Type 0
-IsProper signs = (0 < bits signs) × (bits signs < 7)
 
 abbrev pub less : Signs
 less = record { minus = true; zero = false; plus = false }

@@ -3,6 +3,7 @@
 ghost use Rattle.std.specs.Prelude.{◌≡◌, cond, IfOk};
 ghost use Rattle.qe_poly.specs.Polynomial as spec;
 ghost use Rattle.qe_poly.specs.Limits.{IsAnswer};
+ghost use Rattle.qe_form.specs.Signs.{IsProper};
 ghost use Rattle.qe_form.specs.Tree.{tree};
 ghost use Rattle.qe_form.specs.Formula as formula;
 ghost use Rattle.qe_root.specs.Outcome.{IsOutcome};
@@ -152,7 +153,7 @@ pub fn sign_form(
     r: &Poly,
     signs: Signs,
 ) -> Result<Form, PolyStop>
-    requires { meaning.IsProper signs }
+    requires { IsProper signs }
     ensures exact { IsOutcome (meaning.sign_limit a.now b.now r.now signs)
         (λ f. tree f ≡ meaning.sign_formula a.now b.now r.now signs) result }
     ensures truth { IfOk result (λ f. meaning.IsSignForm a.now b.now r.now signs (tree f)) }
