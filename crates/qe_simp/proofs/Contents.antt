@@ -24,7 +24,7 @@ join k None t = t
 join k (Some s) None = Some s
 join k (Some s) (Some t) = Some (joined_signs k s t)
 
-join_none : (k : Connective) (s : Option Signs) → join k s None ≡ s
+pub join_none : (k : Connective) (s : Option Signs) → join k s None ≡ s
 join_none k None = refl
 join_none k (Some s) = refl
 

@@ -13,3 +13,5 @@ pub mod Contents
 pub mod Deciding
 pub mod Primitive
 pub mod Stable
+pub mod Shapes
+pub mod Alikes

@@ -183,6 +183,36 @@ stable_joint k fs each = by_test (list_any (decides k) (steps k fs)) refl
         let pieces = steps-Each (Piece k) Stable k (pieces_in k) (one_piece k) fs each in
         stable_closed k (steps k fs) (parts_stable k (steps k fs) pieces test) (whole_again k (steps k fs) (ascending_ordered k (flat_map (parts_in k) fs)) test)
 
+-- ---- the parts of what is joined
+
+piece_own : (k : Connective) (f : Formula) → Piece k f → IsOwn k f
+piece_own k (Atom a) piece = own_atom k a
+piece_own k f piece = piece.0
+
+closed_parts : (k : Connective) (fs : List Formula) → Each (Piece k) fs → parts_in k (closed k fs) ≡ fs
+closed_parts Conjunction [] pieces = refl
+closed_parts Disjunction [] pieces = refl
+closed_parts k (f ∷ []) pieces = piece_own k f pieces.0
+closed_parts Conjunction (f ∷ g ∷ gs) pieces = listed_back (f ∷ g ∷ gs)
+closed_parts Disjunction (f ∷ g ∷ gs) pieces = listed_back (f ∷ g ∷ gs)
+
+-- where none decides, the parts of the whole are the merged ones
+pub own_closed : (k : Connective) (fs : List Formula) → Each Stable fs → parts_in k (closed k (steps k fs)) ≡ steps k fs
+own_closed k fs each = closed_parts k (steps k fs) (steps-Each (Piece k) Stable k (pieces_in k) (one_piece k) fs each)
+
+whole_atom : (k : Connective) (a : atom.Atom) → IsProper a.signs → whole k (Atom a ∷ []) ≡ Atom a
+whole_atom Conjunction a proper = ap (λ b. cond (b || false) False (Atom a)) (proper_some (bits a.signs) proper.0)
+whole_atom Disjunction a proper = ap (λ b. cond (b || false) True (Atom a)) (proper_not_all (bits a.signs) proper.1)
+
+-- a stable formula is the whole of its own parts
+pub whole_parts : (k : Connective) (f : Formula) → Stable f → whole k (parts_in k f) ≡ f
+whole_parts Conjunction True stable = refl
+whole_parts Conjunction (And fs) stable = stable.1
+whole_parts Disjunction False stable = refl
+whole_parts Disjunction (Or fs) stable = stable.1
+whole_parts k (Atom a) stable = ap (whole k) (own_atom k a) ∙ whole_atom k a stable
+whole_parts k f stable = refl
+
 -- ---- simplified formulas are stable
 
 stable_truth : (b : Bool) → Stable (truth b)

@@ -1,7 +1,5 @@
-use Rattle.qe_simp.proofs.Stable.{unchanged}
-use Rattle.qe_simp.proofs.Deciding.{same_whole, whole_longer}
-use Rattle.qe_simp.proofs.Primitive.{primitive_of}
+use Rattle.qe_simp.proofs.Shapes.{simplified_twice}
 use Rattle.qe_simp.proofs.laws.idempotent.Goals as goal
 
 pub returns : goal.returns
-returns c = ?
+returns c = simplified_twice
