@@ -44,7 +44,7 @@ whole_first k fs qs = by_test (list_any (decides k) (ordered k (pieces k fs))) r
     by_test false test =
         ap (λ ps. whole k (ps ++ qs)) (own_closed k (simplified_each (trees_of fs)) (each_stable (trees_of fs)))
         ∙ same_whole k (ordered k (pieces k fs) ++ qs) (pieces k fs ++ qs) (λ x. (
-            content-append k x (ordered k (pieces k fs)) qs ∙ (ap (λ c. join k c (content k x qs)) (content-ordered k x (pieces k fs)) ∙ sym (content-append k x (pieces k fs) qs))))
+        content-append k x (ordered k (pieces k fs)) qs ∙ (ap (λ c. join k c (content k x qs)) (content-ordered k x (pieces k fs)) ∙ sym (content-append k x (pieces k fs) qs))))
 
 laid_flat : (k : Connective) (fs gs : List Formula) → simplified (connected k (connected k fs ∷ gs)) ≡ simplified (connected k (fs ++ gs))
 laid_flat k fs gs =
@@ -103,8 +103,8 @@ mutual
   each_among {gs} (and_one {f} {g} {fs} found same rest) k x =
       ap (join k (content k x (pieces k gs))) (content-append k x (parts_in k (simplified f)) (pieces k fs))
       ∙ absorbs_both k (content k x (pieces k gs)) (content k x (parts_in k (simplified f))) (content k x (pieces k fs))
-        (ap (λ h. join k (content k x (pieces k gs)) (content k x (parts_in k h))) (alike_equal same) ∙ among k x g gs found)
-        (each_among rest k x)
+      (ap (λ h. join k (content k x (pieces k gs)) (content k x (parts_in k h))) (alike_equal same) ∙ among k x g gs found)
+      (each_among rest k x)
 
 -- ---- lists of the same formulas
 

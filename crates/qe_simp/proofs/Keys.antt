@@ -79,14 +79,14 @@ one_of_equals : (k : Connective) (f g h : Formula) (t : Bool) → is_eq (formula
 one_of_equals k f g h true tied is =
     let same : f ≡ g = formula_same f g (equal_tie (formula_cmp f g) tied) in
     let first : h ≡ f = cc in
-    record { same = ap key same; kept = ap key first; joined = ap signs_of first ∙ (sym (joined_same k (signs_of f)) ∙ ap (λ e. joined_signs k (signs_of f) (signs_of e)) same); }
+    record { same = ap key same; kept = ap key first; joined = ap signs_of first ∙ (sym (joined_same k (signs_of f)) ∙ ap (λ e. joined_signs k (signs_of f) (signs_of e)) same) }
 one_of_equals k f g h false apart is = absurd (cc)
 
 one_of_atoms : (k : Connective) (a b : atom.Atom) (h : Formula) (t : Bool) → poly_eq a.poly b.poly ≡ t → cond t (Some (Atom (record { poly = a.poly; signs = joined_signs k a.signs b.signs }))) None ≡ Some h → One k (Atom a) (Atom b) h
 one_of_atoms k a b h true tied is =
     let same = poly_tells a.poly b.poly tied in
     let made : h ≡ Atom (record { poly = a.poly; signs = joined_signs k a.signs b.signs }) = cc in
-    record { same = λ i. Atom (record { poly = same i; signs = no_signs }); kept = ap key made; joined = ap signs_of made; }
+    record { same = λ i. Atom (record { poly = same i; signs = no_signs }); kept = ap key made; joined = ap signs_of made }
 one_of_atoms k a b h false apart is = absurd (cc)
 
 pub one_of : (k : Connective) (f g h : Formula) → as_one k f g ≡ Some h → One k f g h

@@ -114,18 +114,18 @@ module _ (t : Term) (ts : Polynomial) (poly : IsPolynomial (t ∷ ts)) (none : (
   content_one e = (
     λ h. subst (λ n. DividesEach n (divided d (t ∷ ts))) (sym (eq-one_of_dvd-one h)) (one_divides (divided d (t ∷ ts))),
     λ h. (
-      let each : DividesEach (e * suc g) (t ∷ ts) = subst (λ n. DividesEach (e * n) (t ∷ ts)) magnitude (divides_quotients e d (t ∷ ts) known.nonzero known.divides h) in
-      let times : e * suc g ∣ 1 * suc g = subst (λ n. e * suc g ∣ n) (omega arith) ((content (e * suc g)).1 each) in
-      dvd_of_mul-dvd-mul_right e (omega arith) times),
+        let each : DividesEach (e * suc g) (t ∷ ts) = subst (λ n. DividesEach (e * n) (t ∷ ts)) magnitude (divides_quotients e d (t ∷ ts) known.nonzero known.divides h) in
+        let times : e * suc g ∣ 1 * suc g = subst (λ n. e * suc g ∣ n) (omega arith) ((content (e * suc g)).1 each) in
+        dvd_of_mul-dvd-mul_right e (omega arith) times),
   )
 
   quotients_primitive : IsPrimitive (divided d (t ∷ ts))
   quotients_primitive = record {
     canonical = known.is_polynomial;
     no_number = λ c same. (
-      let multiple = known.is_multiple in
-      let number = number_scaled c (negated_if (leads_negative (t ∷ ts)) multiple.0) in
-      none number.0 (multiple.2 ∙ (ap (scaled (negated_if (leads_negative (t ∷ ts)) multiple.0)) same ∙ number.1)));
+        let multiple = known.is_multiple in
+        let number = number_scaled c (negated_if (leads_negative (t ∷ ts)) multiple.0) in
+        none number.0 (multiple.2 ∙ (ap (scaled (negated_if (leads_negative (t ∷ ts)) multiple.0)) same ∙ number.1)));
     itself = sym (divided_by_content (divided d (t ∷ ts)) known.is_polynomial (λ same. absurd (cc)) (pos 1) 1 content_one (sym (ap (λ b. negated_if b 1) leading))).is_primitive ∙ divided_one (divided d (t ∷ ts));
     positive = leading;
   }

@@ -222,7 +222,7 @@ mutual
   simple_atoms : (f : Formula) → IsPlain f → Stable f → EachAtom (λ a. IsPrimitive a.poly) f → IsPlainWith IsSimple f
   simple_atoms True plain stable atoms = tt
   simple_atoms False plain stable atoms = tt
-  simple_atoms (Atom a) plain stable atoms = record { primitive = atoms; proper = stable; }
+  simple_atoms (Atom a) plain stable atoms = record { primitive = atoms; proper = stable }
   simple_atoms (And fs) plain stable atoms = simple_atoms_each Conjunction fs plain stable.0 atoms
   simple_atoms (Or fs) plain stable atoms = simple_atoms_each Disjunction fs plain stable.0 atoms
   simple_atoms f plain stable atoms = absurd plain

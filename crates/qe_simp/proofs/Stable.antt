@@ -134,7 +134,7 @@ joined_piece k a b piece = by_test (decides (opposite k) made) refl
     by_test : (t : Bool) → decides (opposite k) (Atom (record { poly = a.poly; signs = joined_signs k a.signs b.signs })) ≡ t → decides (opposite k) (Atom (record { poly = a.poly; signs = joined_signs k a.signs b.signs })) ≡ false
     by_test true test =
         let back : decides (opposite k) (Atom a) ≡ true = sym (ap (λ s. decides (opposite k) (Atom (record { poly = a.poly; signs = s }))) (absorbed k a.signs b.signs))
-            ∙ still_decides (opposite k) (Atom a) (joined_signs k a.signs b.signs) a.signs test in
+        ∙ still_decides (opposite k) (Atom a) (joined_signs k a.signs b.signs) a.signs test in
         absurd (no_way (sym back ∙ piece))
       where
         no_way : true ≡ false → ⊥
