@@ -3,9 +3,9 @@
 ghost use Rattle.std.specs.Prelude.{◌≡◌, map, IfOk};
 ghost use Rattle.std.specs.List.{flat_map};
 ghost use Rattle.qe_form.specs.Tree.{tree, trees};
-ghost use Rattle.qe_simp.specs.Meaning.{Keeps, IsKnown};
+ghost use Rattle.qe_simp.specs.Meaning.{Keeps};
 ghost use Rattle.qe_form.specs.Plain.{IsPlain};
-ghost use Rattle.qe_simp.specs.Shape.{IsSimplified, EachAtom, EachAtomOf};
+ghost use Rattle.qe_simp.specs.Shape.{IsSimplified, EachAtom, EachAtomOf, IsCanonical};
 ghost use Rattle.qe_simp.specs.Simplified.{closed, decided, joint, merged, in_order, parts_in, simplified, simplified_each};
 
 use crate::OutOfMemory;
@@ -52,11 +52,11 @@ fn join_parts(
     Ok(decide(merge(alloc, parts, connective)?, connective))
 }
 
-/// The simplified form, and what is known of the atoms that were simplified.
+/// The simplified form. The atoms that were simplified are on canonical polynomials.
 #[cycle(simplify)]
 fn simplified_form(alloc: Global, form: Form) -> Result<Form, OutOfMemory>
     ensures exact { IfOk result (λ f. tree f ≡ simplified (tree form)) }
-    ensures atoms { IfOk result (λ _. EachAtom IsKnown (tree form)) }
+    ensures canonical { IfOk result (λ _. EachAtom IsCanonical (tree form)) }
 {
     match form {
         Form::Atom(atom) => simplify_atom(alloc, atom),
@@ -78,11 +78,11 @@ fn simplified_form(alloc: Global, form: Form) -> Result<Form, OutOfMemory>
     }
 }
 
-/// The simplified formulas as parts under a connective.
+/// The simplified formulas as parts under a connective. The atoms that were simplified are on canonical polynomials.
 #[cycle(simplify)]
 fn gather(alloc: Global, forms: Forms, connective: Connective) -> Result<Vec<Form>, OutOfMemory>
     ensures exact { IfOk result (λ v. map tree v.items ≡ flat_map (parts_in connective) (simplified_each (trees forms))) }
-    ensures atoms { IfOk result (λ _. EachAtomOf IsKnown (trees forms)) }
+    ensures canonical { IfOk result (λ _. EachAtomOf IsCanonical (trees forms)) }
 {
     let mut parts = Vec::new(alloc);
     for form in forms.into_vec() {
@@ -96,7 +96,8 @@ fn gather(alloc: Global, forms: Forms, connective: Connective) -> Result<Vec<For
 /// primitive with a positive leading coefficient. And and Or take in the parts of parts with their own connective; a part
 /// that decides leaves its constant; constants that change nothing and repeated parts go; atoms on one polynomial become
 /// one, with the signs in both for And and in either for Or; the rest stands in the order of formulas, and a list of one is
-/// its part. Formulas with other connectives stay as they are. `Err` for want of memory alone.
+/// its part. Formulas with other connectives stay as they are, and so does a form that is simplified already. `Err` for want
+/// of memory alone.
 pub fn simplify(alloc: Global, form: Form) -> Result<Form, OutOfMemory>
     ensures exact { IfOk result (λ f. tree f ≡ simplified (tree form)) }
     ensures kept { IfOk result (λ f. Keeps (tree form) (tree f)) }
