@@ -1,0 +1,7 @@
+mod Pieces
+mod Numerals
+mod Derived
+mod PolynomialTokens
+mod Legible
+mod FormulaTokens
+mod Stored

@@ -1,0 +1,11 @@
+//! Probes.
+
+/// Probe.
+pub fn tokens()
+    ensures { Unit {0} }
+{}
+
+/// Probe.
+pub fn stored()
+    ensures { Unit {0} }
+{}
