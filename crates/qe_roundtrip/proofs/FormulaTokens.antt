@@ -75,7 +75,7 @@ module _ (names free : List (List ℕ)) where
   relation_parts relation.GreaterOrEqual rest = refl
 
   -- what is printed of an atom whose signs are those of a relation
-  related : (r : Relation) (p : Polynomial) → atom_text names (record { poly = p; signs = signs_of r }) ≡ polynomial_text names p ++ relation_text (bits (signs_of r))
+  pub related : (r : Relation) (p : Polynomial) → atom_text names (record { poly = p; signs = signs_of r }) ≡ polynomial_text names p ++ relation_text (bits (signs_of r))
   related relation.Equal p = refl
   related relation.NotEqual p = refl
   related relation.Less p = refl
@@ -161,7 +161,7 @@ module _ (names free : List (List ℕ)) where
 
   -- ---- formulas
 
-  is_more : (f : Formula) (fs : Formulas) → 1 < size (more f fs) → is_one (more f fs) ≡ false
+  pub is_more : (f : Formula) (fs : Formulas) → 1 < size (more f fs) → is_one (more f fs) ≡ false
   is_more f no_more h = absurd (omega arith)
   is_more f (more g gs) h = refl
 

@@ -5,3 +5,6 @@ mod PolynomialTokens
 mod Legible
 mod FormulaTokens
 mod Stored
+mod Sites
+mod PolynomialValue
+mod PolynomialNames

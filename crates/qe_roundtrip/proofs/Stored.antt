@@ -227,7 +227,7 @@ stored_negative p h = record {
 
 -- ---- terms that are in order already
 
-collected_same : (p : Polynomial) → IsPolynomial p → collected p ≡ p
+pub collected_same : (p : Polynomial) → IsPolynomial p → collected p ≡ p
 collected_same p h = same_polynomial (collected p) p (IsPolynomial-collected p (Each-monomial p h)) h (λ m. coefficient-collected p m)
 
 found_in_range : (m : Monomial) (ts : List Term) → Each (λ t. IsInRange t.1) ts → IsInRange (or_zero (find in_turn m ts))
@@ -257,7 +257,23 @@ more_taken p q h =
     let few : length (p ++ q) ≤ 4096 = omega (arith, h.few, length-append p q, length-append p (negative q), length-map {B = Term} q (λ (t : Term). (t.0, neg_ℤ t.1))) in
     (few_limit Sub p q few (λ m. subst (λ z. IsInRange z) (ap (λ r. coefficient r m) (sym same) ∙ coefficient-difference p q m) (coefficient_in_range (p ++ negative q) m h)), same)
 
--- ---- the first terms
+-- ---- the first terms, and the later ones
+
+each_behind : {X : Type 0} (P : X → Type 0) (xs ys : List X) → Each P (xs ++ ys) → Each P ys
+each_behind P [] ys h = h
+each_behind P (x ∷ xs) ys h = each_behind P xs ys h.1
+
+behind_polynomial : (p q : Polynomial) → IsPolynomial (p ++ q) → IsPolynomial q
+behind_polynomial [] q h = h
+behind_polynomial (t ∷ ts) q h = behind_polynomial ts q h.3
+
+pub stored_behind : (p q : Polynomial) → IsStored (p ++ q) → IsStored q
+stored_behind p q h = record {
+  polynomial = behind_polynomial p q h.polynomial;
+  in_range = each_behind (λ t. IsInRange t.1) p q h.in_range;
+  low = each_behind (λ t. is_high t.0 ≡ false) p q h.low;
+  few = omega (arith, h.few, length-append p q);
+}
 
 below_front : (m : Monomial) (p q : Polynomial) → IsBelow m (p ++ q) → IsBelow m p
 below_front m [] q h = tt

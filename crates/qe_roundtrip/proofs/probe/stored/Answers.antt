@@ -1,5 +1,6 @@
-use Rattle.qe_roundtrip.proofs.Stored.{stored_front}
+use Rattle.qe_roundtrip.proofs.PolynomialValue.{poly_value}
+use Rattle.qe_roundtrip.proofs.PolynomialNames.{in_polynomial}
 use Rattle.qe_roundtrip.proofs.probe.stored.Goals as goal
 
 pub returns : goal.returns
-returns c = let x = stored_front in tt
+returns c = let x = poly_value in let y = in_polynomial in tt
