@@ -8,3 +8,11 @@ mod Stored
 mod Sites
 mod PolynomialValue
 mod PolynomialNames
+mod Loose
+mod FormulaMeaning
+mod Shape
+mod StoredValue
+mod Counts
+mod Original
+mod Clean
+mod FreeAgain

@@ -55,7 +55,7 @@ module _ (text : List ℕ) where
   abbrev pub scope_of : List Binder → Scope
   scope_of bs = map (λ b. (letters text b.name, b.var)) bs
 
-  found_in : (bs : List Binder) (w : Letters) → bound_to text bs w ≡ found (scope_of bs) w
+  pub found_in : (bs : List Binder) (w : Letters) → bound_to text bs w ≡ found (scope_of bs) w
   found_in [] w = refl
   found_in (b ∷ bs) w = ap (λ o. option_or o (cond (is_same (letters text b.name) w) (Some b.var) None)) (found_in bs w)
 

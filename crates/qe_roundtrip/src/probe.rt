@@ -9,3 +9,13 @@ pub fn tokens()
 pub fn stored()
     ensures { Unit {0} }
 {}
+
+/// Probe.
+pub fn meaning()
+    ensures { Unit {0} }
+{}
+
+/// Probe.
+pub fn original()
+    ensures { Unit {0} }
+{}
