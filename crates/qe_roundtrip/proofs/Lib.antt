@@ -16,3 +16,4 @@ mod Counts
 mod Original
 mod Clean
 mod FreeAgain
+mod Again

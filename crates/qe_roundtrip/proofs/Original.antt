@@ -37,7 +37,7 @@ use Rattle.qe_roundtrip.proofs.StoredValue.{of_added, stored_value}
 
 -- ---- names by their numbers
 
-name_front : (xs ys : List Letters) (k : ℕ) → k < length xs → name_of (xs ++ ys) k ≡ get_or xs k []
+pub name_front : (xs ys : List Letters) (k : ℕ) → k < length xs → name_of (xs ++ ys) k ≡ get_or xs k []
 name_front [] ys k h = absurd (omega arith)
 name_front (x ∷ xs) ys zero h = refl
 name_front (x ∷ xs) ys (suc k) h = name_front xs ys k (omega arith)

@@ -2,4 +2,4 @@
 //! Knows nothing of elimination.
 #![tactic(auto)]
 
-pub mod probe;
+pub mod laws;
