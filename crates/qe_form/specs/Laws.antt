@@ -1,17 +1,20 @@
 -- The laws of values, truth and sameness, stated.
-use Rattle.std.specs.Prelude.{◌≡◌, ℕ, ℤ, Bool, true, false, ◌⊎◌, ◌↔◌, Option, Some, None}
+use Rattle.std.specs.Prelude.{◌≡◌, ℕ, ℤ, Bool, true, false, ◌⊎◌, ◌↔◌, Option, Some, None, ◌∷◌}
 use Rattle.std.specs.declared.cmp.Ordering.TheVariants as ordering
 use Rattle.std.specs.Cmp.{IsTotalOrder}
 use Rattle.qe_tower.specs.Number.{Number, add, mul, neg, whole_number, Equal}
-use Rattle.qe_tower.specs.Point.{Point, IsPoint, look_up}
+use Rattle.qe_tower.specs.Point.{Point, IsPoint, look_up, number_at}
 use Rattle.qe_poly.specs.Polynomial.{Polynomial, sum, negative, product}
 use Rattle.qe_poly.specs.Value.{scaled}
+use Rattle.qe_poly.specs.Renamed.{renamed}
+use Rattle.qe_poly.specs.declared.monomial.Var.{Var}
 use Rattle.qe_form.specs.Formula.{Formula, Formulas, And, Or, Not, Implies, Iff, Ex, All}
 use Rattle.qe_form.specs.Measures.{Has}
 use Rattle.qe_form.specs.Order.{formula_cmp}
 use Rattle.qe_form.specs.Value.{value}
 use Rattle.qe_form.specs.Truth.{Is}
-use Rattle.qe_form.specs.Same.{IsFree, HasNoQuantifier, Gives, Same, SameEach}
+use Rattle.qe_form.specs.Same.{OccursInSome, IsFree, HasNoQuantifier, Gives, Same, SameEach}
+use Rattle.qe_form.specs.Preserved.{Preserves, IsDecided, HasDecidedCore, HasOuterQuantifiers}
 
 -- no formula is both true and false at a point
 abbrev pub NeverBoth : Type 0
@@ -53,6 +56,27 @@ BothOrNeither f g p = (Is f true p × Is g true p) ⊎ (Is f false p × Is g fal
 abbrev pub SameIsLiteral : Type 0
 SameIsLiteral = (f g : Formula) → HasNoQuantifier g → Same f g → (p : Point) → IsPoint p → Gives p f → BothOrNeither f g p
 
+-- where it is decided whether f is true, what preserves f is the same as f
+abbrev pub PreservesIsSame : Type 0
+PreservesIsSame = (f g : Formula) → IsDecided f → Preserves f g → Same f g
+
+-- `Preserves` is an order of formulas, and what is the same is preserved
+pub record PreservesIsPreorder : Type 0 where
+  pub reflexive : (f : Formula) → Preserves f f
+  pub transitive : (f g h : Formula) → Preserves f g → Preserves g h → Preserves f h
+  pub same : (f g : Formula) → Same f g → Preserves f g
+
+-- negation and the quantifiers keep `Preserves`
+pub record PreservesIsKept : Type 0 where
+  pub under_not : (f g : Formula) → Preserves f g → Preserves (Not f) (Not g)
+  pub under_ex : (x : ℕ) (f g : Formula) → Preserves f g → Preserves (Ex x f) (Ex x g)
+  pub under_all : (x : ℕ) (f g : Formula) → Preserves f g → Preserves (All x f) (All x g)
+
+-- what follows outer quantifiers and negations is decided where it has no quantifier, and each formula where excluded middle holds of truth
+pub record CoresAreDecided : Type 0 where
+  pub outer : (f : Formula) → HasOuterQuantifiers f → HasDecidedCore f
+  pub settled : ((f : Formula) (p : Point) → IsSettled f p) → (f : Formula) → HasDecidedCore f
+
 -- the value of a sum is the sum of the values
 abbrev pub ValueOfSum : Type 0
 ValueOfSum = (q r : Polynomial) (p : Point) → IsPoint p → Equal (value (sum q r) p) (add (value q p) (value r p))
@@ -68,6 +92,10 @@ ValueOfProduct = (q r : Polynomial) (p : Point) → IsPoint p → Equal (value (
 -- the value of a multiple is the multiple of the value
 abbrev pub ValueOfMultiple : Type 0
 ValueOfMultiple = (c : ℤ) (q : Polynomial) (p : Point) → IsPoint p → Equal (value (scaled c q) p) (mul (whole_number c) (value q p))
+
+-- the value with y in the place of x is that where x has the number of y
+abbrev pub ValueOfRenamed : Type 0
+ValueOfRenamed = (x y : Var) (q : Polynomial) (p : Point) → IsPoint p → (OccursInSome y.0 q → ⊥) → Equal (value (renamed x y q) p) (value q ((x.0, number_at p y.0) ∷ p))
 
 -- neither is a number, or both are and they are equal
 abbrev pub SameNumber : Option Number → Option Number → Type 0
