@@ -1,6 +1,6 @@
 -- A formula and its simplified form are true at the same points, and false at the same.
-use Rattle.std.proofs.Common.{◌≡◌, ◌∙◌, sym, ap, refl, subst, Bool, true, false, not, cond, ◌&&◌, ◌||◌, ◌↔◌, ◌⊎◌, inl, inr, List, [], ◌∷◌, Option, Some, None}
-use Rattle.std.specs.List.{flat_map, list_any}
+use Rattle.std.proofs.Common.{◌≡◌, ◌∙◌, sym, ap, refl, subst, Bool, true, false, not, cond, ◌&&◌, ◌||◌, ◌↔◌, ◌⊎◌, inl, inr, List, [], ◌∷◌, Some, None}
+use Rattle.std.specs.List.{list_any}
 use Rattle.std.specs.declared.cmp.Ordering.{Ordering}
 use Rattle.std.specs.declared.cmp.Ordering.TheVariants as ordering
 use Rattle.std.specs.Ordering.{is_eq}
@@ -18,7 +18,7 @@ use Rattle.qe_form.specs.Order.{formula_cmp}
 use Rattle.qe_form.specs.OrderLaws.{formula_same}
 use Rattle.qe_simp.specs.declared.connective.Connective.{Connective}
 use Rattle.qe_simp.specs.declared.connective.Connective.TheVariants.{Conjunction, Disjunction}
-use Rattle.qe_simp.specs.Simplified.{neutral, deciding, connected, joined_signs, listed, parts_in, as_one, merged, in_order, decides, closed, decided, joint, simplified, simplified_each}
+use Rattle.qe_simp.specs.Simplified.{neutral, deciding, connected, joined_signs, listed, parts_in, as_one, decides, closed, decided, joint, simplified, simplified_each}
 use Rattle.qe_simp.specs.Shape.{EachAtom, EachAtomOf, IsCanonical}
 use Rattle.qe_simp.proofs.Atoms.{never_has, always_has, canonical_agrees}
 use Rattle.qe_simp.proofs.Parts.{Each, Any, steps, Each-steps, Any-steps, steps-Any}

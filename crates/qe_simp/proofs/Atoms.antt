@@ -1,10 +1,10 @@
 -- An atom and its simplified form are true at the same points.
-use Rattle.std.proofs.Common.{◌≡◌, ◌∙◌, sym, ap, refl, subst, ℕ, zero, suc, ◌<◌, eqb, Bool, true, false, cond, ◌↔◌, ℤ, pos, neg_ℤ, ◌+ℤ◌, Option, Some, None, [], ◌∷◌, arith}
+use Rattle.std.proofs.Common.{◌≡◌, ◌∙◌, sym, ap, refl, subst, ℕ, zero, suc, ◌<◌, eqb, Bool, true, false, cond, ◌↔◌, ℤ, pos, neg_ℤ, Option, Some, None, [], ◌∷◌, arith}
 use Rattle.std.proofs.Math.IntN.{+ℤ_idr}
 use Rattle.std.proofs.lemmas.Bool.Decides.{Decides-int_eq, nat_tests}
 use Rattle.std.specs.Ordering.{int_eq}
 use Rattle.qe_ring.specs.Sign.{Sign, Minus, Zero, Plus, int_sign, opposite, ◌·◌}
-use Rattle.qe_tower.specs.Number.{sign_of, whole_number, mul}
+use Rattle.qe_tower.specs.Number.{sign_of, whole_number}
 use Rattle.qe_tower.specs.Point.{Point, IsPoint}
 use Rattle.qe_tower.proofs.ValidNumbers.{ValidNumber, valid_operations, valid_ordered}
 use Rattle.qe_poly.specs.Polynomial.{Polynomial, constant, coefficient}
@@ -18,7 +18,7 @@ use Rattle.qe_form.specs.Formula.{Formula, True, False, Atom}
 use Rattle.qe_form.specs.Value.{value}
 use Rattle.qe_form.specs.Truth.{has_sign, Is}
 use Rattle.qe_form.proofs.Values.{value_of_multiple, value_valid}
-use Rattle.qe_simp.specs.Simplified.{truth, as_number, primitive_atom, on_number, simplified_atom}
+use Rattle.qe_simp.specs.Simplified.{truth, as_number, on_number, simplified_atom}
 use Rattle.qe_simp.specs.Meaning.{AgreesEverywhere}
 use Rattle.qe_simp.specs.Shape.{IsCanonical}
 use Rattle.qe_simp.proofs.Numbers.{sign_of-constant}

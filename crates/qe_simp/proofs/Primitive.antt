@@ -1,16 +1,14 @@
 -- The primitive polynomial of a canonical polynomial that is no number is canonical, no number, and its own primitive polynomial.
-use Rattle.std.proofs.Common.{◌≡◌, ◌≢◌, ◌∙◌, sym, ap, refl, subst, ℕ, zero, suc, ◌+◌, ◌*◌, ◌%◌, ◌<◌, ◌≤◌, Bool, true, false, cond, ◌↔◌, ℤ, pos, negsuc, neg_ℤ, ◌*ℤ◌, unsigned_abs, [], ◌∷◌, arith}
+use Rattle.std.proofs.Common.{◌≡◌, ◌≢◌, ◌∙◌, sym, ap, refl, subst, ℕ, zero, suc, ◌*◌, ◌%◌, ◌<◌, ◌≤◌, Bool, true, false, cond, ℤ, pos, negsuc, ◌*ℤ◌, unsigned_abs, [], ◌∷◌, arith}
 use Rattle.std.proofs.Math.Nat.{one-dvd, eq-one_of_dvd-one, mul-dvd-mul_right, dvd_of_mul-dvd-mul_right, mod-lt}
-use Rattle.std.proofs.Math.IntN.{*ℤ_comm}
 use Rattle.std.proofs.lemmas.Int.{ints, unsigned_abs-mul}
-use Rattle.std.proofs.lemmas.Nat.Gcd.{dvd-zero, dvd_refl, dvd_trans, IsGcd-from_mod, IsGcd-from_zero}
-use Rattle.std.proofs.lemmas.Bool.Decides.{Decides-int_eq, nat_tests}
+use Rattle.std.proofs.lemmas.Nat.Gcd.{dvd-zero, dvd_trans, IsGcd-from_mod, IsGcd-from_zero}
+use Rattle.std.proofs.lemmas.Bool.Decides.{nat_tests}
 use Rattle.std.specs.Ordering.{int_eq}
 use Rattle.std.specs.Int.{◌∣◌, IsGcd}
 use Rattle.std.specs.Int.RustNames.{int_div, int_lt}
-use Rattle.qe_ring.specs.Sign.{Sign, Minus, Zero, Plus, int_sign, ◌·◌}
+use Rattle.qe_ring.specs.Sign.{Minus, Plus, int_sign, ◌·◌}
 use Rattle.qe_ring.proofs.Ints.{int_ordered}
-use Rattle.qe_coef.specs.Range.{Divides}
 use Rattle.qe_poly.specs.Polynomial.{Term, Polynomial, IsPolynomial, constant}
 use Rattle.qe_poly.specs.Value.{scaled}
 use Rattle.qe_poly.specs.Primitive.{leads_negative, negated_if, divided, primitive, IsMultiple, DividesEach, IsContent}
