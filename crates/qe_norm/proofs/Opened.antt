@@ -26,8 +26,7 @@ constant_is false true p = ((λ e. sym e), (λ e. sym e))
 constant_is false false p = ((λ e. refl), (λ e. refl))
 
 constant_is_not : (b c : Bool) (p : Point) → Is (constant (not b)) c p ↔ (agreeing b c ≡ false)
-constant_is_not true true p = ((λ e. sym e), (λ e. sym e))
-constant_is_not true false p = ((λ e. refl), (λ e. refl))
+constant_is_not true c p = ((λ e. e), (λ e. e))
 constant_is_not false true p = ((λ e. refl), (λ e. refl))
 constant_is_not false false p = ((λ e. sym e), (λ e. sym e))
 
