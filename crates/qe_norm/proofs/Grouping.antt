@@ -1,7 +1,8 @@
 -- Blocks: they stand for their quantifiers one after another, and there are no more of them, nor longer ones, than quantifiers.
 use Rattle.std.proofs.Common.{ℕ, ◌+◌, ◌≤◌, Bool, true, false, cond, ◌≡◌, ◌∙◌, refl, sym, ap, List, [], ◌∷◌, ◌++◌, map, length, length-append, arith}
 use Rattle.std.proofs.lemmas.List.{append_assoc, append-nil, map-append}
-use Rattle.std.specs.List.{All, AllByRecursion}
+use Rattle.std.specs.List.{AllByRecursion}
+use Rattle.std.specs.List as list
 use Rattle.std.proofs.lemmas.List.Elements.{All-from_recursion}
 use Rattle.qe_poly.specs.declared.monomial.Var.{Var}
 use Rattle.qe_form.specs.Formula.{Formula}
@@ -102,5 +103,28 @@ short_after n bs [] h = short_more n (n + 0) bs (omega arith) h
 short_after n bs (q ∷ qs) h =
     short_more ((n + 1) + length qs) (n + length (q ∷ qs)) (grouped_after (with_quantifier bs q) qs) (omega arith) (short_after (n + 1) (with_quantifier bs q) qs (short_with n bs q h))
 
-pub short_grouped : (qs : List Quantifier) (n : ℕ) → length qs ≤ n → All (λ b. length b.vars ≤ n) (grouped qs)
+pub short_grouped : (qs : List Quantifier) (n : ℕ) → length qs ≤ n → list.All (λ b. length b.vars ≤ n) (grouped qs)
 short_grouped qs n less = All-from_recursion (λ (b : Block). length b.vars ≤ n) (grouped qs) (short_more (0 + length qs) n (grouped qs) (omega arith) (short_after 0 [] qs tt))
+
+-- ---- one quantifier more, in the code
+
+with_last : (rest : List Block) (b : Block) (q : Quantifier) → with_quantifier (rest ++ b ∷ []) q ≡ rest ++ cond (is_same_kind b.kind q.kind) (record { kind = b.kind; vars = b.vars ++ q.var ∷ [] } ∷ []) (b ∷ alone q ∷ [])
+with_last [] b q = refl
+with_last (c ∷ []) b q = refl
+with_last (c ∷ d ∷ rest) b q = ap (λ bs. c ∷ bs) (with_last (d ∷ rest) b q)
+
+-- it joins the last block
+pub added_same : (blocks rest new : List Block) (b : Block) (vars : List Var) (q : Quantifier) → blocks ≡ rest ++ b ∷ [] → is_same_kind b.kind q.kind ≡ true → vars ≡ b.vars ++ q.var ∷ [] → new ≡ rest ++ record { kind = b.kind; vars = vars } ∷ []
+    → new ≡ with_quantifier blocks q
+added_same blocks rest new b vars q last same made is =
+    is
+    ∙ ((λ i. rest ++ record { kind = b.kind; vars = made i } ∷ [])
+    ∙ ((λ i. rest ++ cond (sym same i) (record { kind = b.kind; vars = b.vars ++ q.var ∷ [] } ∷ []) (b ∷ alone q ∷ [])) ∙ (sym (with_last rest b q) ∙ ap (λ bs. with_quantifier bs q) (sym last))))
+
+-- it begins a block
+pub added_other : (blocks rest old new : List Block) (b a : Block) (q : Quantifier) → blocks ≡ rest ++ b ∷ [] → is_same_kind b.kind q.kind ≡ false → old ≡ rest ++ b ∷ [] → a ≡ alone q → new ≡ old ++ a ∷ [] → new ≡ with_quantifier blocks q
+added_other blocks rest old new b a q last apart before made is =
+    is
+    ∙ ((λ i. before i ++ made i ∷ [])
+    ∙ (append_assoc rest (b ∷ []) (alone q ∷ [])
+    ∙ ((λ i. rest ++ cond (sym apart i) (record { kind = b.kind; vars = b.vars ++ q.var ∷ [] } ∷ []) (b ∷ alone q ∷ [])) ∙ (sym (with_last rest b q) ∙ ap (λ bs. with_quantifier bs q) (sym last)))))

@@ -8,3 +8,5 @@ pub mod Grouping
 pub mod Matrices
 pub mod Mirrors
 pub mod Loops
+pub mod Wholes
+pub mod Assembled

@@ -101,11 +101,11 @@ mutual
   count_normal b (And fs) = count_connected b (normal_forms b fs) ∙ count_normals b fs
   count_normal b (Or fs) = count_connected (not b) (normal_forms b fs) ∙ count_normals b fs
   count_normal b (Not f) = count_normal (not b) f
-  count_normal b (Implies f g) = count_pair (not b) _ _ (size_of f) (size_of g) (count_normal (not b) f) (count_normal b g)
+  count_normal b (Implies f g) = count_pair (not b) (normal_form (not b) f) (normal_form b g) (size_of f) (size_of g) (count_normal (not b) f) (count_normal b g)
   count_normal b (Iff f g) =
-      count_pair false _ _ (size_of f + size_of g) (size_of f + size_of g)
-      (count_pair true _ _ (size_of f) (size_of g) (count_normal true f) (count_normal b g))
-      (count_pair true _ _ (size_of f) (size_of g) (count_normal false f) (count_normal (not b) g))
+      count_pair false (pair true (normal_form true f) (normal_form b g)) (pair true (normal_form false f) (normal_form (not b) g)) (size_of f + size_of g) (size_of f + size_of g)
+      (count_pair true (normal_form true f) (normal_form b g) (size_of f) (size_of g) (count_normal true f) (count_normal b g))
+      (count_pair true (normal_form false f) (normal_form (not b) g) (size_of f) (size_of g) (count_normal false f) (count_normal (not b) g))
       ∙ twice (size_of f + size_of g)
     where
       twice : (n : ℕ) → n + n ≡ 2 * n

@@ -28,6 +28,10 @@ IsVariable x (q ∷ qs) = (x ≡ q.var.0) ⊎ IsVariable x qs
 
 -- ---- the formula, part by part
 
+-- no quantifier of one has a variable of the other
+abbrev pub Disjoint : Formula → Formulas → Type 0
+Disjoint f fs = ((z : ℕ) → Binds z f → (IsFreeInSome z fs ⊎ BindsIn z fs) → ⊥) × ((z : ℕ) → BindsIn z fs → IsFree z f → ⊥)
+
 -- its quantifiers have variables of their own, which are nowhere free
 abbrev mutual
   pub IsApart : Formula → Type 0
@@ -41,9 +45,6 @@ abbrev mutual
   AreApart no_more = Unit {0}
   AreApart (more f fs) = IsApart f × AreApart fs × Disjoint f fs
 
-  -- no quantifier of one has a variable of the other
-  pub Disjoint : Formula → Formulas → Type 0
-  Disjoint f fs = ((z : ℕ) → Binds z f → (IsFreeInSome z fs ⊎ BindsIn z fs) → ⊥) × ((z : ℕ) → BindsIn z fs → IsFree z f → ⊥)
 
 -- ---- one quantifier
 
@@ -120,6 +121,14 @@ free_under (q ∷ qs) f z o =
     let rest = free_under qs f z first.1 in
     ((λ h. elim h [ inl e ↦ first.0 e | inr k ↦ rest.0 k ]), rest.1)
 
+joint_right : (i : Bool) (A B C : Type 0) → (B → C) → Joint i A B → Joint i A C
+joint_right true A B C move h = (h.0, move h.1)
+joint_right false A B C move h = elim h [ inl a ↦ inl a | inr c ↦ inr (move c) ]
+
+joint_left : (i : Bool) (A B C : Type 0) → (A → C) → Joint i A B → Joint i C B
+joint_left true A B C move h = (move h.0, h.1)
+joint_left false A B C move h = elim h [ inl a ↦ inl (move a) | inr c ↦ inr c ]
+
 -- two formulas at a truth: j says whether both are meant, and `joined` is the formula that joins them
 module _ (j b : Bool) (joined : Formula) (left right : Formula) (made : (p : Point) → Joint j (Is left b p) (Is right b p) → Is joined b p) where
   -- those of the right part
@@ -130,11 +139,7 @@ module _ (j b : Bool) (joined : Formula) (left right : Formula) (made : (p : Poi
       (ranging_moved (range q.kind b) _ _ (λ v k h. out_right qs (λ z i. free z (inr i)) ((q.var.0, v) ∷ p) h)
       (right_out j (range q.kind b) (λ v. Is (under qs right) b ((q.var.0, v) ∷ p)) (Is left b p) (λ v. Is left b ((q.var.0, v) ∷ p))
       (λ v h. not_free_reads left b q.var.0 v p (free q.var.0 (inl refl)) h)
-      (joint_right j (ranges q.kind q.var.0 (under qs right) b p) t)))
-    where
-      joint_right : {A B C : Type 0} (i : Bool) → (B → C) → Joint i A B → Joint i A C
-      joint_right true move h = (h.0, move h.1)
-      joint_right false move h = elim h [ inl a ↦ inl a | inr c ↦ inr (move c) ]
+      (joint_right j (Is left b p) (Is (under (q ∷ qs) right) b p) (Ranging (range q.kind b) (λ v. Is (under qs right) b ((q.var.0, v) ∷ p))) (ranges q.kind q.var.0 (under qs right) b p) t)))
 
   -- those of the left part, and then those of the right part
   pub out_both : (ps qs : List Quantifier) → ((z : ℕ) → IsVariable z ps → IsFree z (under qs right) → ⊥) → ((z : ℕ) → IsVariable z qs → IsFree z left → ⊥)
@@ -145,11 +150,7 @@ module _ (j b : Bool) (joined : Formula) (left right : Formula) (made : (p : Poi
       (ranging_moved (range q.kind b) _ _ (λ v k h. out_both ps qs (λ z i. first z (inr i)) second ((q.var.0, v) ∷ p) h)
       (left_out j (range q.kind b) (λ v. Is (under ps left) b ((q.var.0, v) ∷ p)) (Is (under qs right) b p) (λ v. Is (under qs right) b ((q.var.0, v) ∷ p))
       (λ v h. not_free_reads (under qs right) b q.var.0 v p (first q.var.0 (inl refl)) h)
-      (joint_left j (ranges q.kind q.var.0 (under ps left) b p) t)))
-    where
-      joint_left : {A B C : Type 0} (i : Bool) → (A → C) → Joint i A B → Joint i C B
-      joint_left true move h = (move h.0, h.1)
-      joint_left false move h = elim h [ inl a ↦ inl (move a) | inr c ↦ inr c ]
+      (joint_left j (Is (under (q ∷ ps) left) b p) (Is (under qs right) b p) (Ranging (range q.kind b) (λ v. Is (under ps left) b ((q.var.0, v) ∷ p))) (ranges q.kind q.var.0 (under ps left) b p) t)))
 
 -- ---- the variables of prefix and matrix
 
@@ -178,7 +179,7 @@ mutual
   prefix_binds (formula.Ex x f) z r h = elim h [ inl e ↦ inl e | inr k ↦ inr (prefix_binds f z r.1 k) ]
   prefix_binds (formula.All x f) z r h = elim h [ inl e ↦ inl e | inr k ↦ inr (prefix_binds f z r.1 k) ]
 
-  prefixes_bind : (fs : Formulas) (z : ℕ) → AreReady fs → IsVariable z (prefix_each fs) → BindsIn z fs
+  pub prefixes_bind : (fs : Formulas) (z : ℕ) → AreReady fs → IsVariable z (prefix_each fs) → BindsIn z fs
   prefixes_bind no_more z r h = h
   prefixes_bind (more f fs) z r h =
       elim (variable_append z (prefix f) (prefix_each fs) h) [ inl k ↦ inl (prefix_binds f z r.0 k) | inr k ↦ inr (prefixes_bind fs z r.1 k) ]
@@ -204,7 +205,7 @@ mutual
         | inr k ↦ variable_right z (prefix f) (prefix_each fs) (bind_prefixes fs z r.1 k)
       ]
 
-below_one : (x : ℕ) (f : Formula) (z : ℕ) → IsFree z f ⊎ Binds z f → ((z ≡ x → ⊥) × IsFree z f) ⊎ ((z ≡ x) ⊎ Binds z f)
+pub below_one : (x : ℕ) (f : Formula) (z : ℕ) → IsFree z f ⊎ Binds z f → ((z ≡ x → ⊥) × IsFree z f) ⊎ ((z ≡ x) ⊎ Binds z f)
 below_one x f z h = elim h [ inl o ↦ (elim (cases_eq z x) [ inl e ↦ inr (inl e) | inr n ↦ inl (n, o) ]) | inr k ↦ inr (inr k) ]
 
 mutual
@@ -258,9 +259,9 @@ or_parts : (b : Bool) (f : Formula) (fs : Formulas) (p : Point) → Is (formula.
 or_parts true f fs p t = t
 or_parts false f fs p t = t
 
-joint_moved : {A B C D : Type 0} (j : Bool) → (A → C) → (B → D) → Joint j A B → Joint j C D
-joint_moved true p q t = (p t.0, q t.1)
-joint_moved false p q t = elim t [ inl a ↦ inl (p a) | inr c ↦ inr (q c) ]
+joint_moved : (j : Bool) (A B C D : Type 0) → (A → C) → (B → D) → Joint j A B → Joint j C D
+joint_moved true A B C D p q t = (p t.0, q t.1)
+joint_moved false A B C D p q t = elim t [ inl a ↦ inl (p a) | inr c ↦ inr (q c) ]
 
 -- the quantifiers of the later parts have no variable of the first matrix
 apart_right : (f : Formula) (fs : Formulas) (z : ℕ) → IsReady f × AreReady fs → Disjoint f fs → IsVariable z (prefix_each fs) → IsFree z (matrix f) → ⊥
@@ -287,7 +288,8 @@ mutual
       out_both b b (formula.And (more (matrix f) (matrix_each fs))) (matrix f) (formula.And (matrix_each fs)) (λ q h. and_made b (matrix f) (matrix_each fs) q h) (prefix f) (prefix_each fs)
       (λ z i o. (a.2).0 z (prefix_binds f z r.0 i) (inl (free_prenexes fs z r.1 (formula.And (matrix_each fs)) (λ h. h) o)))
       (λ z i o. apart_right f fs z r a.2 i o) p
-      (joint_moved b (λ h. outwards f r.0 a.0 b p h) (λ h. and_outwards fs r.1 a.1 b p h) (and_parts b f fs p t))
+      (joint_moved b (Is f b p) (Is (formula.And fs) b p) (Is (under (prefix f) (matrix f)) b p) (Is (under (prefix_each fs) (formula.And (matrix_each fs))) b p)
+      (λ h. outwards f r.0 a.0 b p h) (λ h. and_outwards fs r.1 a.1 b p h) (and_parts b f fs p t))
 
   or_outwards : (fs : Formulas) → AreReady fs → AreApart fs → (b : Bool) (p : Point) → Is (formula.Or fs) b p → Is (under (prefix_each fs) (formula.Or (matrix_each fs))) b p
   or_outwards no_more r a b p t = t
@@ -295,4 +297,5 @@ mutual
       out_both (not b) b (formula.Or (more (matrix f) (matrix_each fs))) (matrix f) (formula.Or (matrix_each fs)) (λ q h. or_made b (matrix f) (matrix_each fs) q h) (prefix f) (prefix_each fs)
       (λ z i o. (a.2).0 z (prefix_binds f z r.0 i) (inl (free_prenexes fs z r.1 (formula.Or (matrix_each fs)) (λ h. h) o)))
       (λ z i o. apart_right f fs z r a.2 i o) p
-      (joint_moved (not b) (λ h. outwards f r.0 a.0 b p h) (λ h. or_outwards fs r.1 a.1 b p h) (or_parts b f fs p t))
+      (joint_moved (not b) (Is f b p) (Is (formula.Or fs) b p) (Is (under (prefix f) (matrix f)) b p) (Is (under (prefix_each fs) (formula.Or (matrix_each fs))) b p)
+      (λ h. outwards f r.0 a.0 b p h) (λ h. or_outwards fs r.1 a.1 b p h) (or_parts b f fs p t))

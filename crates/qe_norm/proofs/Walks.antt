@@ -137,7 +137,7 @@ module _ (n : ℕ) (Bound : ℕ → Type 0) (below : (z : ℕ) → Bound z → z
 
     body_rising : Rising n (within w x rs) (length (after w x).names)
     body_rising = elim (is_copy w x) as (λ b. Rising n (cond b (rs ++ copied ∷ []) rs)
-      (length (cond b (record { met = w.met; names = w.names ++ unwrap_or (slice_get w.names x) [] ∷ [] }) (record { met = slice_set w.met x true; names = w.names })).names)) [
+      (length (cond {A = Walked} b (record { met = w.met; names = w.names ++ unwrap_or (slice_get w.names x) [] ∷ [] }) (record { met = slice_set w.met x true; names = w.names })).names)) [
       | true ↦ rising_push n rs copied (length w.names) _ refl (let e = length-append w.names (unwrap_or (slice_get w.names x) [] ∷ []) in omega arith) fits.rising
       | false ↦ fits.rising
     ]
@@ -148,7 +148,7 @@ module _ (n : ℕ) (Bound : ℕ → Type 0) (below : (z : ℕ) → Bound z → z
     body_small : (z : ℕ) → IsFree z f → z < n
     body_small z o = elim (cases_eq z x) [ inl e ↦ (let k = x_small in let d = e in omega arith) | inr e ↦ fits.small z (e, o) ]
 
-    body_fits : Fits f (within w x rs) (after w x)
+    pub body_fits : Fits f (within w x rs) (after w x)
     body_fits = record {
       walked = stepped.0.walked;
       room = (let h = fits.room in let k = stepped.0.grows in omega arith);
@@ -250,7 +250,7 @@ module _ (n : ℕ) (Bound : ℕ → Type 0) (below : (z : ℕ) → Bound z → z
       }
 
   -- what is asked of All is what is asked of Ex
-  as_ex : (x : ℕ) (f : Formula) (rs : List Renaming) (w : Walked) → Fits (All x f) rs w → Fits (Ex x f) rs w
+  pub as_ex : (x : ℕ) (f : Formula) (rs : List Renaming) (w : Walked) → Fits (All x f) rs w → Fits (Ex x f) rs w
   as_ex x f rs w h = record {
     walked = h.walked;
     room = h.room;

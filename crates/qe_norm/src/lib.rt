@@ -2,8 +2,10 @@
 //! Knows nothing of texts, nor of how quantifiers are eliminated.
 #![tactic(auto)]
 
+mod group;
 mod opening;
 mod prenex;
+mod size;
 mod walk;
 
 pub use opening::normal;

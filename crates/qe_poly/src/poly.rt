@@ -18,7 +18,7 @@ use crate::multiple::{derivative, multiple};
 use crate::part::part;
 use crate::primitive::{content, leads_negative, negated_if, quotients};
 use crate::product::multiply;
-use crate::rename::stands_in_some;
+use crate::rename::{renamed_terms, stands_in_some};
 use crate::sum::combine;
 use crate::term::Term;
 use qe_coef::{Coef, Op};
@@ -218,8 +218,12 @@ impl Poly {
     pub fn renamed(&self, alloc: Global, from: Var, to: Var) -> Result<Poly, AllocError>
         ensures { IfOk result (λ p. p ≡ renamed from to self.now) }
     {
-        let _stub = (alloc, from, to);
-        Err(AllocError)
+        if !stands_in_some(&self.terms, from) || stands_in_some(&self.terms, to) {
+            return self.copy(alloc);
+        }
+        let mut terms = renamed_terms(alloc, &self.terms, from, to)?;
+        terms.sort()?;
+        Ok(Poly { terms })
     }
 
     /// The terms, from the greatest monomial to the least.
