@@ -75,7 +75,6 @@ ranges_moved false P Q move t = λ v k. move v k (t v k)
 then : {A B C : Type 0} → A ↔ B → B ↔ C → A ↔ C
 then p q = ((λ a. q.0 (p.0 a)), (λ c. p.1 (q.1 c)))
 
-
 -- ---- the whole formula
 
 two : {A B C D : Type 0} → A ↔ C → B ↔ D → (A × (B × Unit {0})) ↔ (C × D)

@@ -45,7 +45,6 @@ abbrev mutual
   AreApart no_more = Unit {0}
   AreApart (more f fs) = IsApart f × AreApart fs × Disjoint f fs
 
-
 -- ---- one quantifier
 
 -- both, or one of both
@@ -228,7 +227,6 @@ mutual
         | inl k ↦ elim (free_matrix f z r.0 k) [ inl l ↦ inl (inl l) | inr l ↦ inr (inl l) ]
         | inr k ↦ elim (free_matrices fs z r.1 k) [ inl l ↦ inl (inr l) | inr l ↦ inr (inr l) ]
       ]
-
 
 -- the free variables of the prenex form are free in the formula
 pub free_prenex : (f : Formula) (z : ℕ) → IsReady f → IsFree z (under (prefix f) (matrix f)) → IsFree z f

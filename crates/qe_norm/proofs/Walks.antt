@@ -137,10 +137,10 @@ module _ (n : ℕ) (Bound : ℕ → Type 0) (below : (z : ℕ) → Bound z → z
 
     body_rising : Rising n (within w x rs) (length (after w x).names)
     body_rising = elim (is_copy w x) as (λ b. Rising n (cond b (rs ++ copied ∷ []) rs)
-      (length (cond {A = Walked} b (record { met = w.met; names = w.names ++ unwrap_or (slice_get w.names x) [] ∷ [] }) (record { met = slice_set w.met x true; names = w.names })).names)) [
-      | true ↦ rising_push n rs copied (length w.names) _ refl (let e = length-append w.names (unwrap_or (slice_get w.names x) [] ∷ []) in omega arith) fits.rising
-      | false ↦ fits.rising
-    ]
+        (length (cond {A = Walked} b (record { met = w.met; names = w.names ++ unwrap_or (slice_get w.names x) [] ∷ [] }) (record { met = slice_set w.met x true; names = w.names })).names)) [
+          | true ↦ rising_push n rs copied (length w.names) _ refl (let e = length-append w.names (unwrap_or (slice_get w.names x) [] ∷ []) in omega arith) fits.rising
+          | false ↦ fits.rising
+        ]
 
     body_source : (z : ℕ) → IsSource z (within w x rs) → IsSource z rs ⊎ (x ≡ z)
     body_source z = elim (is_copy w x) as (λ b. IsSource z (cond b (rs ++ copied ∷ []) rs) → IsSource z rs ⊎ (x ≡ z)) [ true ↦ λ s. source_push z rs copied s | false ↦ λ s. inl s ]

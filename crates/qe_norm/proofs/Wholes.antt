@@ -98,7 +98,7 @@ module _ (n : ℕ) (Bound : ℕ → Type 0) (below : (z : ℕ) → Bound z → z
 
     rest_fits : Fits n Bound below f [] begun
     rest_fits = subst (λ b. Fits n Bound below f (cond b ([] ++ record { from = record { 0 = x }; to = record { 0 = length w.names } } ∷ []) [])
-      (cond {A = Walked} b (record { met = w.met; names = w.names ++ unwrap_or (slice_get w.names x) [] ∷ [] }) begun)) copy (body_fits n Bound below x f [] w fits)
+        (cond {A = Walked} b (record { met = w.met; names = w.names ++ unwrap_or (slice_get w.names x) [] ∷ [] }) begun)) copy (body_fits n Bound below x f [] w fits)
 
     rest_new : AreNew f begun
     rest_new z h = get_or-set_other w.met x z true false (λ e. fits.ready.0 (subst (λ i. Binds i f) e h)) ∙ new z (inr h)

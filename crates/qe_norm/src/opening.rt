@@ -17,7 +17,7 @@ use qe_form::{Form, Input, Names};
 use std::alloc::Global;
 
 /// The prenex form, built in one walk.
-fn prenex(alloc: Global, form: &Form, names: Names) -> Result<Prenex, NormStop>
+pub fn prenex(alloc: Global, form: &Form, names: Names) -> Result<Prenex, NormStop>
     ensures { PrenexAnswers (tree form.now) names result }
 {
     let mut walk = Walk::new(alloc, names)?;
