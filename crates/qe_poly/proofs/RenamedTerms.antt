@@ -133,17 +133,17 @@ polynomial_from (t ∷ u ∷ us) sorted each once = (
   each.0.0,
   each.0.1,
   next_below (shown t) (shown u) (let at : is_lt (term_cmp (shown (get_or (t ∷ u ∷ us) (0 + 1) t)) (shown t)) ≡ false = sorted 0 t (omega arith) (omega arith) in at)
-  (λ same. (
+      (λ same. (
       let one : tie t.monomial (shown t) ≡ 1 = tie_itself t.monomial t.coef in
       let two : tie t.monomial (shown u) ≡ 1 = ap (λ m. tie m (shown u)) same ∙ tie_itself u.monomial u.coef in
       let most = once t.monomial in
       omega (arith, one, two))),
   polynomial_from (u ∷ us)
-  (λ k d low high. (
+      (λ k d low high. (
       let next : suc k + 1 ≡ suc (k + 1) = omega arith in
       subst (λ n. is_lt (term_cmp (shown (get_or (t ∷ u ∷ us) n d)) (shown (get_or (u ∷ us) k d))) ≡ false) next (sorted (suc k) d (omega arith) (omega arith))))
-  each.1
-  (λ m. (let most = once m in omega arith)),
+      each.1
+      (λ m. (let most = once m in omega arith)),
 )
 
 -- ---- the renamed terms
@@ -164,7 +164,7 @@ module _ (x y : Var) where
       let halves = neither (stands_in y.0 u.0) (stands_in_some y.0 us) nil in
       let rest = none_there t us monomial none each.1 halves.1 (below_rest t.0 u us below) m is in
       let first : tie m (made u) ≡ 0 = apart (eq_by_cmp in_turn m (renamed_monomial x y u.0)) refl
-        (λ same. renamed_apart x y t.0 u.0 monomial each.0 none halves.0 (below_first t.0 u us below) (sym is ∙ same)) in
+      (λ same. renamed_apart x y t.0 u.0 monomial each.0 none halves.0 (below_first t.0 u us below) (sym is ∙ same)) in
       (λ i. first i + rest i)
     where
       apart : (b : Bool) → eq_by_cmp in_turn m (renamed_monomial x y u.0) ≡ b → (m ≡ renamed_monomial x y u.0 → ⊥) → ◌≡◌ {A = ℕ} (cond b 1 0) 0

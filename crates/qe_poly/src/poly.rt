@@ -365,6 +365,32 @@ mod tests {
     }
 
     #[test]
+    fn renames_a_variable(rt: HostRuntime) -> Result<(), Fail> {
+        let alloc = rt.alloc();
+        let x = Poly::power(alloc, Var(0), 1)?;
+        let y = Poly::power(alloc, Var(1), 1)?;
+        let z = Poly::power(alloc, Var(2), 1)?;
+        // x*y with z in the place of x is y*z, and y stands in it already
+        let product = x.mul(alloc, &y)?;
+        assert!(rt; product.renamed(alloc, Var(0), Var(2))? == y.mul(alloc, &z)?);
+        assert!(rt; product.renamed(alloc, Var(0), Var(1))? == product);
+        Ok(())
+    }
+
+    #[test]
+    fn sorts_what_it_renames(rt: HostRuntime) -> Result<(), Fail> {
+        let alloc = rt.alloc();
+        let x = Poly::power(alloc, Var(0), 2)?;
+        let y = Poly::power(alloc, Var(1), 1)?;
+        // x^2 + y with z in the place of x is y + z^2
+        let sum = x.add(alloc, &y)?;
+        let want = y.add(alloc, &Poly::power(alloc, Var(2), 2)?)?;
+        assert!(rt; sum.has(Var(0)) && !sum.has(Var(2)));
+        assert!(rt; sum.renamed(alloc, Var(0), Var(2))? == want);
+        Ok(())
+    }
+
+    #[test]
     fn multiplies(rt: HostRuntime) -> Result<(), Fail> {
         let alloc = rt.alloc();
         let x = Poly::power(alloc, Var(0), 1)?;
