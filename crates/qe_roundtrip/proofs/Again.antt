@@ -1,9 +1,8 @@
 -- What is printed reads again.
-use Rattle.std.proofs.Common.{ℕ, zero, suc, ◌+◌, ◌≡◌, ◌<◌, ◌≤◌, refl, sym, ap, subst, ◌∙◌, List, [], ◌∷◌, ◌++◌, append_assoc, append-nil, map, length, length-append, get_or, arith}
+use Rattle.std.proofs.Common.{ℕ, suc, ◌+◌, ◌≡◌, ◌<◌, ◌≤◌, refl, sym, ap, subst, ◌∙◌, List, [], ◌∷◌, ◌++◌, append_assoc, append-nil, map, length, length-append, get_or, arith}
 use Rattle.std.specs.List.{AllByRecursion, Contains}
 use Rattle.std.proofs.lemmas.List.{get_or_default}
 use Rattle.qe_token.specs.declared.token.Name.{Name}
-use Rattle.qe_token.specs.declared.token.Located.{Located}
 use Rattle.qe_syntax.specs.Tree.{FormulaTree}
 use Rattle.qe_syntax.specs.Grammar as grammar
 use Rattle.qe_syntax.specs.Grammar.{Mark, the_end, input, formula_tree}
@@ -18,12 +17,12 @@ use Rattle.qe_read.specs.Names.{Letters, letters}
 use Rattle.qe_read.specs.FreeNames.{AreLettersOf, free_names}
 use Rattle.qe_read.specs.Formula.{bound_names, formula}
 use Rattle.qe_read.specs.Numbered.{binders}
-use Rattle.qe_read.specs.Input.{IsInput, IsTextOf, IsReadFrom}
+use Rattle.qe_read.specs.Input.{IsInput, IsReadFrom}
 use Rattle.qe_read.proofs.Named.{all_names, in_text}
 use Rattle.qe_read.proofs.Words.{each_word}
 use Rattle.qe_read.proofs.Numbers.{given, numbered, among_contained, all_listed, the_binders, bound_between}
-use Rattle.qe_roundtrip.specs.Laws.{FreeNamesOccur, AreShallow, OpensFewLevels, ReadsAgain}
-use Rattle.qe_roundtrip.proofs.Pieces.{AllFit, Reads, Open}
+use Rattle.qe_roundtrip.specs.Laws.{FreeNamesOccur, OpensFewLevels, ReadsAgain}
+use Rattle.qe_roundtrip.proofs.Pieces.{Reads}
 use Rattle.qe_roundtrip.proofs.Numerals.{IsName}
 use Rattle.qe_roundtrip.proofs.Derived.{formula_at}
 use Rattle.qe_roundtrip.proofs.Legible.{IsLegible}

@@ -1,5 +1,5 @@
 -- The marks of a text without a fault, and of a text that is to have none.
-use Rattle.std.proofs.Common.{ℕ, ◌+◌, ◌≡◌, ◌<◌, ◌≤◌, refl, sym, ap, subst, ◌∙◌, Bool, true, false, List, [], ◌∷◌, ◌++◌, nat_le, Option, Some, None, arith}
+use Rattle.std.proofs.Common.{ℕ, ◌≡◌, ◌<◌, ◌≤◌, refl, sym, ap, subst, ◌∙◌, Bool, true, false, List, [], ◌∷◌, ◌++◌, nat_le, Option, Some, None, arith}
 use Rattle.std.specs.Prelude.{if◌then◌else◌}
 use Rattle.std.proofs.lemmas.Bool.Decides.{nat_tests}
 use Rattle.qe_token.specs.declared.token.Located.{Located}
@@ -12,9 +12,10 @@ use Rattle.qe_syntax.specs.Reading.{IsClean}
 use Rattle.qe_syntax.proofs.Spelling.{texts-append}
 use Rattle.qe_syntax.proofs.Within.{counted-append}
 use Rattle.qe_syntax.proofs.First.{HasMark}
-use Rattle.qe_syntax.proofs.Small.{Cut, cut}
+use Rattle.qe_syntax.proofs.Small.{cut}
 use Rattle.qe_roundtrip.specs.Laws.{AreShallow}
 use Rattle.qe_roundtrip.proofs.Pieces.{AllFit}
+use Rattle.qe_roundtrip.proofs.Shape.{one_if}
 
 -- the faults of a mark in their order
 abbrev in_order : Bool → Bool → Bool → Bool → Option TextFault
@@ -59,11 +60,10 @@ module _ (tokens : List Located) (of : FormulaTree) (t : IsText tokens of) where
   clean_rest ms [] e = tt
   clean_rest ms (m ∷ rest) e =
       let c = cut tokens (texts ms) m.token (texts rest) (sym t.spelled ∙ ap texts e ∙ texts-append ms (m ∷ rest)) in
-      let mark : (g : TextFault) → value_fault (counted 0 ms) m ≡ Some g → HasMark (bare c.before) (head c.after) g = λ g v. (t.derived, ms, m, rest, e, sym c.before_are, sym c.next_is, v) in
-      (
+      let mark : (g : TextFault) → value_fault (counted 0 ms) m ≡ Some g → HasMark (bare c.before) (head c.after) g = λ g v. (t.derived, ms, m, rest, e, sym c.before_are, sym c.next_is, v) in (
         refused (is_wide m.token m.role) (is_high m.token m.role) (is_deep m.opens) (is_full m.begins (counted 0 ms))
-        (λ v. t.no_fault c.before c.after Wide c.stands (mark Wide v)) (λ v. t.no_fault c.before c.after Exponent c.stands (mark Exponent v))
-        (λ v. t.no_fault c.before c.after TooDeep c.stands (mark TooDeep v)) (λ v. t.no_fault c.before c.after TooMany c.stands (mark TooMany v)),
+            (λ v. t.no_fault c.before c.after Wide c.stands (mark Wide v)) (λ v. t.no_fault c.before c.after Exponent c.stands (mark Exponent v))
+            (λ v. t.no_fault c.before c.after TooDeep c.stands (mark TooDeep v)) (λ v. t.no_fault c.before c.after TooMany c.stands (mark TooMany v)),
         subst (λ n. IsClean n rest) (counted-append 0 ms (m ∷ [])) (clean_rest (ms ++ m ∷ []) rest (e ∙ sym (push ms rest m))),
       )
 
@@ -75,9 +75,6 @@ clean_fits begun [] h = tt
 clean_fits begun (m ∷ ms) h =
     let n = none_of (is_wide m.token m.role) (is_high m.token m.role) (is_deep m.opens) (is_full m.begins begun) h.0 in
     ((n.wide, n.high), clean_fits (counted begun (m ∷ [])) ms h.1)
-
-abbrev one_if : Bool → ℕ → ℕ
-one_if b k = if b then k + 1 else k
 
 not_full : (b : Bool) (k : ℕ) → is_full b k ≡ false → k ≤ 65536 → one_if b k ≤ 65536
 not_full true k h l = let f : k < 65536 = grind (arith, nat_tests) in omega arith
@@ -106,8 +103,7 @@ room false k l = refl
 pub clean_from : (begun : ℕ) (ms : List Mark) → AllFit ms → AreShallow ms → counted begun ms ≤ 65536 → IsClean begun ms
 clean_from begun [] f s l = tt
 clean_from begun (m ∷ ms) f s l =
-    let most : one_if m.begins begun ≤ 65536 = omega (arith, counts_up (one_if m.begins begun) ms, l) in
-    (
+    let most : one_if m.begins begun ≤ 65536 = omega (arith, counts_up (one_if m.begins begun) ms, l) in (
       of_none (is_wide m.token m.role) (is_high m.token m.role) (is_deep m.opens) (is_full m.begins begun) f.0.0 f.0.1 s.0 (room m.begins begun most),
       clean_from (one_if m.begins begun) ms f.1 s.1 l,
     )

@@ -10,7 +10,7 @@ use Rattle.qe_poly.specs.Polynomial.{Polynomial}
 use Rattle.qe_form.specs.declared.form.Atom as atom
 use Rattle.qe_form.specs.Signs.{bits}
 use Rattle.qe_form.specs.Formula.{Formula, Formulas, True, False, Atom, And, Or, Not, Implies, Iff, Ex, All, no_more, more}
-use Rattle.qe_print.specs.Polynomial.{name_of, power_text, factors_text, term_text, terms_text, polynomial_text}
+use Rattle.qe_print.specs.Polynomial.{name_of, power_text, term_text, polynomial_text}
 use Rattle.qe_print.specs.Formula.{bracketed, formula_text}
 use Rattle.qe_syntax.specs.Grammar as grammar
 

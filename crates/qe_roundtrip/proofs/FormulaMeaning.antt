@@ -5,7 +5,6 @@ use Rattle.std.proofs.lemmas.List.{map-append, length-map}
 use Rattle.qe_token.specs.declared.token.Name.{Name}
 use Rattle.qe_token.specs.declared.token.Relation.{Relation}
 use Rattle.qe_token.specs.declared.token.Relation.TheVariants as relation
-use Rattle.qe_poly.specs.declared.monomial.Var.{Var}
 use Rattle.qe_poly.specs.Polynomial.{Polynomial}
 use Rattle.qe_form.specs.declared.form.Atom as atom
 use Rattle.qe_form.specs.declared.signs.Signs.{Signs}
@@ -13,25 +12,24 @@ use Rattle.qe_form.specs.Fed.{size}
 use Rattle.qe_form.specs.Signs.{bits}
 use Rattle.qe_form.specs.Formula.{Formula, Formulas, True, False, Atom, And, Or, Not, Implies, Iff, Ex, All, no_more, more}
 use Rattle.qe_print.specs.Polynomial.{name_of, polynomial_text}
-use Rattle.qe_print.specs.Formula.{relation_text, atom_text, bracketed, part, is_one, formula_text, parts_text}
+use Rattle.qe_print.specs.Formula.{relation_text, atom_text, bracketed, part, formula_text, parts_text}
 use Rattle.qe_syntax.specs.Tree as tree
 use Rattle.qe_syntax.specs.Tree.{FormulaTree, FormulaTrees}
-use Rattle.qe_syntax.specs.Grammar as grammar
 use Rattle.qe_syntax.specs.Grammar.{term_tree, atom_tree, formula_tree, ands_trees, ors_trees, unary_tree, conjoined, disjoined}
 use Rattle.qe_read.specs.declared.scope.Binder.{Binder}
 use Rattle.qe_read.specs.Names.{Letters, letters, or_free, variable}
 use Rattle.qe_read.specs.FreeNames.{free_in, free_names, free_names_each}
 use Rattle.qe_read.specs.Numbered.{binders, binders_each}
-use Rattle.qe_read.specs.Value.{next, at, added, value}
-use Rattle.qe_read.specs.Formula.{signs_of, bound_names, names_bound_in, binder, atom_value, pair_value, formula, formulas}
+use Rattle.qe_read.specs.Value.{next, at, added}
+use Rattle.qe_read.specs.Formula.{signs_of, bound_names, names_bound_in, binder, pair_value, formula, formulas}
 use Rattle.qe_read.proofs.Variables.{Have}
 use Rattle.qe_read.proofs.Numbers.{names_of, names_of-push}
-use Rattle.qe_roundtrip.proofs.Derived.{name_at, poly_at, number_term, relation_of, atom_at, part_at, formula_at, ands_at, ors_at}
+use Rattle.qe_roundtrip.proofs.Derived.{name_at, poly_at, relation_of, atom_at, part_at, formula_at, ands_at, ors_at}
 use Rattle.qe_roundtrip.proofs.Legible.{IsStored, Scope, found, IsKnown, IsAtom, IsLegible, AreLegible}
 use Rattle.qe_roundtrip.proofs.Stored.{more_taken}
 use Rattle.qe_roundtrip.proofs.Sites.{At, at_front, at_behind, letters_here}
 use Rattle.qe_roundtrip.proofs.PolynomialValue.{poly_value}
-use Rattle.qe_roundtrip.proofs.PolynomialNames.{printed_names, in_polynomial}
+use Rattle.qe_roundtrip.proofs.PolynomialNames.{in_polynomial}
 use Rattle.qe_roundtrip.proofs.Loose.{outside, loose, loose_each, scope_of, variable_in, scope_of-push, free_in-is}
 use Rattle.qe_roundtrip.proofs.FormulaTokens.{is_more, related}
 

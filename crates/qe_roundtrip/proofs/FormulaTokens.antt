@@ -1,5 +1,5 @@
 -- The text of a formula is the tokens of its derivation.
-use Rattle.std.proofs.Common.{ℕ, suc, ◌+◌, ◌-◌, ◌^◌, ◌≡◌, ◌<◌, ◌≤◌, refl, sym, ap, subst, ◌∙◌, Bool, true, false, ◌||◌, List, [], ◌∷◌, ◌++◌, length, Some, None, ltb, arith}
+use Rattle.std.proofs.Common.{ℕ, suc, ◌+◌, ◌-◌, ◌^◌, ◌≡◌, ◌<◌, ◌≤◌, refl, sym, subst, Bool, true, false, List, [], ◌∷◌, ◌++◌, length, Some, ltb, arith}
 use Rattle.std.specs.Prelude.{codes, unsigned_abs, if◌then◌else◌}
 use Rattle.std.specs.List.{AllByRecursion}
 use Rattle.std.proofs.lemmas.Bool.Decides.{nat_tests}
@@ -7,9 +7,8 @@ use Rattle.qe_token.specs.declared.token.Relation.{Relation}
 use Rattle.qe_token.specs.declared.token.Relation.TheVariants as relation
 use Rattle.qe_token.specs.declared.token.Token.TheVariants as token
 use Rattle.qe_coef.specs.Range.{IsInRange}
-use Rattle.qe_poly.specs.declared.monomial.Power.{Power}
 use Rattle.qe_poly.specs.Monomial.{Monomial, is_high}
-use Rattle.qe_poly.specs.Polynomial.{Term, Polynomial}
+use Rattle.qe_poly.specs.Polynomial.{Polynomial}
 use Rattle.qe_poly.proofs.Sorted.{Each}
 use Rattle.qe_form.specs.declared.form.Atom as atom
 use Rattle.qe_form.specs.declared.signs.Signs.{Signs}
@@ -23,17 +22,13 @@ use Rattle.qe_read.specs.Numbered.{binders}
 use Rattle.qe_read.proofs.Variables.{Have, Has}
 use Rattle.qe_syntax.specs.Grammar as grammar
 use Rattle.qe_syntax.specs.Grammar.{Mark, plain, opener, word, figure, literal}
-use Rattle.qe_roundtrip.proofs.Pieces.{Parts, Open, Closed, opened, nothing, closed_open, open_closed, open_open, blank_token, one_token}
-use Rattle.qe_roundtrip.proofs.Numerals.{IsName, zero_opens, name_opens}
-use Rattle.qe_roundtrip.proofs.Derived.{name_at, poly_at, number_term, relation_of, atom_at, lone, of_conj, of_unary, joined_by, part_at, formula_at, ands_at, ors_at}
+use Rattle.qe_roundtrip.proofs.Pieces.{or_no, Parts, Open, Closed, opened, nothing, closed_open, open_closed, open_open, blank_token, one_token}
+use Rattle.qe_roundtrip.proofs.Numerals.{zero_opens, name_opens}
+use Rattle.qe_roundtrip.proofs.Derived.{name_at, poly_at, relation_of, atom_at, part_at, formula_at, ands_at, ors_at}
 use Rattle.qe_roundtrip.proofs.PolynomialTokens.{bare_sign, PowerPrints, TermPrints, poly_opens}
 use Rattle.qe_roundtrip.proofs.Legible.{IsStored, Scope, IsKnown, IsAtom, IsLegible, AreLegible}
 
 -- ---- what is printed of a polynomial
-
-not_either : (a b : Bool) → (a || b) ≡ false → (a ≡ false) × (b ≡ false)
-not_either true b h = absurd (cc)
-not_either false b h = (refl, h)
 
 at_most : (n : ℕ) → ltb 65535 n ≡ false → n ≤ 65535
 at_most n h = grind (arith, nat_tests)
@@ -42,7 +37,7 @@ module _ (names free : List (List ℕ)) where
   powers_print : (scope : Scope) (m : Monomial) → is_high m ≡ false → Has (IsKnown names free scope) m → AllByRecursion (PowerPrints names) m
   powers_print scope [] h k = tt
   powers_print scope (a ∷ m) h k =
-      let parts = not_either (ltb 65535 a.exponent) (is_high m) h in (record { name = k.0.name; low = at_most a.exponent parts.0 }, powers_print scope m parts.1 k.1)
+      let parts = or_no (ltb 65535 a.exponent) (is_high m) h in (record { name = k.0.name; low = at_most a.exponent parts.0 }, powers_print scope m parts.1 k.1)
 
   terms_print : (scope : Scope) (p : Polynomial) → Each (λ t. IsInRange t.1) p → Each (λ t. is_high t.0 ≡ false) p → Have (IsKnown names free scope) p → AllByRecursion (TermPrints names) p
   terms_print scope [] r l k = tt

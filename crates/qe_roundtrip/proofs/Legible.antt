@@ -1,12 +1,12 @@
 -- What a formula that was read is like, so that its text can be read.
-use Rattle.std.proofs.Common.{ℕ, suc, ◌+◌, ◌^◌, ◌≡◌, ◌<◌, ◌≤◌, refl, Bool, false, true, cond, List, [], ◌∷◌, ◌++◌, length, Option, Some, None, arith}
-use Rattle.std.specs.List.{AllByRecursion, Contains}
+use Rattle.std.proofs.Common.{ℕ, suc, ◌+◌, ◌≡◌, ◌<◌, ◌≤◌, false, cond, List, [], ◌∷◌, ◌++◌, length, Option, Some, None}
+use Rattle.std.specs.List.{Contains}
 use Rattle.std.specs.Option.{option_or}
 use Rattle.qe_token.specs.declared.token.Relation.{Relation}
 use Rattle.qe_coef.specs.Range.{IsInRange}
 use Rattle.qe_poly.specs.declared.monomial.Var.{Var}
-use Rattle.qe_poly.specs.Monomial.{Monomial, is_high}
-use Rattle.qe_poly.specs.Polynomial.{Term, Polynomial, IsPolynomial}
+use Rattle.qe_poly.specs.Monomial.{is_high}
+use Rattle.qe_poly.specs.Polynomial.{Polynomial, IsPolynomial}
 use Rattle.qe_poly.proofs.Sorted.{Each}
 use Rattle.qe_form.specs.declared.form.Atom as atom
 use Rattle.qe_form.specs.Fed.{size}

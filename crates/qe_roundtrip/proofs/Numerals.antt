@@ -1,6 +1,6 @@
 -- Numbers and names as tokens.
-use Rattle.std.proofs.Common.{ℕ, ◌+◌, ◌-◌, ◌*◌, ◌/◌, ◌%◌, ◌^◌, ◌≡◌, ◌≢◌, ◌<◌, ◌≤◌, refl, sym, ap, subst, ◌∙◌, Bool, true, false, List, [], ◌∷◌, ◌++◌, length, Option, Some, None, min, nat_le, arith}
-use Rattle.std.specs.Prelude.{IsTrue, ◌==◌, fold, codes, decimal}
+use Rattle.std.proofs.Common.{ℕ, ◌+◌, ◌-◌, ◌*◌, ◌/◌, ◌%◌, ◌^◌, ◌≡◌, ◌≢◌, ◌<◌, ◌≤◌, refl, sym, ap, ◌∙◌, Bool, true, false, List, [], ◌∷◌, ◌++◌, length, Option, Some, min, arith}
+use Rattle.std.specs.Prelude.{IsTrue, fold, codes, decimal}
 use Rattle.std.specs.List.{list_all}
 use Rattle.std.proofs.Math.Nat.{min-eq_left}
 use Rattle.std.proofs.lemmas.Bool.{le-ltb, and_from}
@@ -9,10 +9,9 @@ use Rattle.std.proofs.lemmas.List.Folds.{list_all-append}
 use Rattle.std.proofs.lemmas.Fmt.{decimal_by_steps_wide}
 use Rattle.qe_token.specs.declared.token.Token.{Token}
 use Rattle.qe_token.specs.declared.token.Token.TheVariants as token
-use Rattle.qe_token.specs.declared.token.Name.{Name}
 use Rattle.qe_token.specs.Bytes.{is_digit, number_of}
 use Rattle.qe_token.specs.Tokens.{IsWord, WordIs, Spells}
-use Rattle.qe_syntax.specs.Grammar.{Mark, Role, no_number, literal, exponent, figure}
+use Rattle.qe_syntax.specs.Grammar.{no_number, literal, exponent, figure}
 use Rattle.qe_roundtrip.proofs.Pieces.{Open, one_token}
 
 -- ---- what the digits of a number are
@@ -24,7 +23,6 @@ pub record AreDigitsOf (n : ℕ) (ds : List ℕ) : Type 0 where
 
 last_digit : (d : ℕ) → d < 10 → is_digit (48 + d) ≡ true
 last_digit d h = grind (arith, nat_tests)
-
 
 fold_last : (ds : List ℕ) (m c : ℕ) → fold (λ n d. 10 * n + (d - 48)) m (ds ++ c ∷ []) ≡ 10 * fold (λ n d. 10 * n + (d - 48)) m ds + (c - 48)
 fold_last [] m c = refl

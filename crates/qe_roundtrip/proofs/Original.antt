@@ -13,7 +13,6 @@ use Rattle.qe_token.specs.declared.token.Relation.{Relation}
 use Rattle.qe_poly.specs.declared.monomial.Var.{Var}
 use Rattle.qe_syntax.specs.Tree as tree
 use Rattle.qe_syntax.specs.Tree.{TermTree, FormulaTree, FormulaTrees}
-use Rattle.qe_form.specs.Formula as form
 use Rattle.qe_form.specs.Formula.{Formula, Formulas}
 use Rattle.qe_form.specs.Fed.{size}
 use Rattle.qe_print.specs.Polynomial.{name_of}
@@ -30,7 +29,7 @@ use Rattle.qe_read.proofs.Valued.{of_value}
 use Rattle.qe_read.proofs.Valued as valued
 use Rattle.qe_read.proofs.Numbers.{Gives, gives_next, gives_equal, names_of, names_of-push, Listed, Free, listed, unbound}
 use Rattle.qe_roundtrip.proofs.Numerals.{IsName}
-use Rattle.qe_roundtrip.proofs.Legible.{Scope, found, IsKnown, IsAtom, IsLegible, AreLegible}
+use Rattle.qe_roundtrip.proofs.Legible.{Scope, found, IsKnown, IsLegible, AreLegible}
 use Rattle.qe_roundtrip.proofs.Loose.{scope_of, variable_in, found_in, scope_of-push}
 use Rattle.qe_roundtrip.proofs.Shape.{tree_size, IsShaped, AreShaped, IsLowTerm}
 use Rattle.qe_roundtrip.proofs.StoredValue.{of_added, stored_value}

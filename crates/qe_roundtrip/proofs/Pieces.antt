@@ -1,6 +1,6 @@
 -- The tokens of texts that are joined.
-use Rattle.std.proofs.Common.{ℕ, ◌+◌, ◌≡◌, refl, sym, ap, subst, ◌∙◌, Bool, true, false, ◌&&◌, ◌||◌, List, [], ◌∷◌, ◌++◌, append_assoc, append-nil, length, length-append, Some, arith}
-use Rattle.std.specs.Prelude.{IsTrue, ◌==◌}
+use Rattle.std.proofs.Common.{ℕ, ◌+◌, ◌≡◌, refl, sym, ap, subst, ◌∙◌, Bool, true, false, ◌&&◌, ◌||◌, List, [], ◌∷◌, ◌++◌, append_assoc, length, length-append, Some, arith}
+use Rattle.std.specs.Prelude.{◌==◌}
 use Rattle.std.specs.List.{list_all}
 use Rattle.std.proofs.lemmas.List.Folds.{list_all-append}
 use Rattle.std.proofs.lemmas.Bool.{and_from}
@@ -56,7 +56,7 @@ reads_token place word rest m ms t is fits spells ends r = record {
 
 -- ---- what may follow
 
-or_no : (x y : Bool) → (x || y) ≡ false → (x ≡ false) × (y ≡ false)
+pub or_no : (x y : Bool) → (x || y) ≡ false → (x ≡ false) × (y ≡ false)
 or_no true y h = absurd (cc)
 or_no false y h = (refl, h)
 
@@ -135,7 +135,7 @@ blank_token place before word after m t b a ends is fits spells = record {
       let e : place + length (before ++ (word ++ after)) ≡ place + length before + length word + length after = omega (arith, length-append before (word ++ after), length-append word after) in
       let s : before ++ (word ++ (after ++ rest)) ≡ (before ++ (word ++ after)) ++ rest = ap (λ bs. before ++ bs) (sym (append_assoc word after rest)) ∙ sym (append_assoc before (word ++ after) rest) in
       let behind : Reads (place + length before + length word) (after ++ rest) ms = reads_blanks (place + length before + length word) after rest ms a (subst (λ n. Reads n rest ms) e r) in
-      subst (λ bs. Reads place bs (m ∷ ms)) s (reads_blanks place before (word ++ (after ++ rest)) (m ∷ ms) b (reads_token (place + length before) word (after ++ rest) m ms t is fits spells (ends rest) behind))
+      subst (λ bs. Reads place bs (m ∷ ms)) s (reads_blanks place before (word ++ (after ++ rest)) (m ∷ ms) b (reads_token (place + length before) word (after ++ rest) m ms t is fits spells (ends rest) behind));
 }
 
 -- one token alone

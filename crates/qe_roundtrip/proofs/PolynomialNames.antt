@@ -1,5 +1,5 @@
 -- The names in the derivation of a polynomial's text are those of its variables, in the order of the text.
-use Rattle.std.proofs.Common.{ℕ, ◌+◌, ◌≡◌, refl, sym, ap, subst, ◌∙◌, Bool, true, false, List, [], ◌∷◌, ◌++◌, append_assoc, append-nil, map, length, pos}
+use Rattle.std.proofs.Common.{ℕ, ◌+◌, ◌≡◌, refl, ap, subst, ◌∙◌, Bool, true, false, List, [], ◌∷◌, ◌++◌, append_assoc, map, length, pos}
 use Rattle.std.specs.Prelude.{◌==◌, if◌then◌else◌, int_lt, unsigned_abs, codes, decimal}
 use Rattle.std.proofs.lemmas.List.{map-append}
 use Rattle.qe_poly.specs.declared.monomial.Power.{Power}
@@ -10,7 +10,7 @@ use Rattle.qe_syntax.specs.Grammar as grammar
 use Rattle.qe_syntax.specs.Grammar.{term_tree, sums_tree, product_tree, times_tree, signed_tree, power_tree}
 use Rattle.qe_read.specs.Names.{Letters, letters}
 use Rattle.qe_read.proofs.Named.{all_in, all_in_addends, all_in_factors, all_summed, all_multiplied}
-use Rattle.qe_roundtrip.proofs.Derived.{name_at, power_by, power_at, times_at, lead_by, tail_by, lead_at, tail_at, minus_if, joint, front, sums_at, poly_at}
+use Rattle.qe_roundtrip.proofs.Derived.{power_by, power_at, times_at, lead_by, tail_by, lead_at, tail_at, minus_if, joint, front, sums_at, poly_at}
 use Rattle.qe_roundtrip.proofs.Sites.{At, at_front, at_behind, letters_here}
 
 module _ (names : List (List ℕ)) where

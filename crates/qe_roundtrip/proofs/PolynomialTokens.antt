@@ -1,5 +1,5 @@
 -- The text of a polynomial is the tokens of its derivation.
-use Rattle.std.proofs.Common.{ℕ, ◌+◌, ◌-◌, ◌^◌, ◌≡◌, ◌≤◌, refl, sym, ap, subst, ◌∙◌, Bool, true, false, List, [], ◌∷◌, ◌++◌, append_assoc, append-nil, length, pos, Some, None, ℤ, arith}
+use Rattle.std.proofs.Common.{ℕ, ◌+◌, ◌-◌, ◌^◌, ◌≡◌, ◌≤◌, refl, sym, ap, subst, ◌∙◌, Bool, true, false, List, [], ◌∷◌, ◌++◌, append_assoc, append-nil, length, pos, Some, None, arith}
 use Rattle.std.specs.Prelude.{◌==◌, if◌then◌else◌, int_lt, unsigned_abs, codes, decimal}
 use Rattle.std.specs.List.{AllByRecursion}
 use Rattle.qe_token.specs.declared.token.Token.{Token}
@@ -12,9 +12,9 @@ use Rattle.qe_poly.specs.Polynomial.{Term, Polynomial}
 use Rattle.qe_print.specs.Polynomial.{name_of, power_text, factors_text, term_text, terms_text, polynomial_text}
 use Rattle.qe_syntax.specs.Grammar as grammar
 use Rattle.qe_syntax.specs.Grammar.{Mark, plain, opener, figure, literal, exponent, sign_token}
-use Rattle.qe_roundtrip.proofs.Pieces.{Fits, Parts, Open, Closed, opened, nothing, closed_closed, closed_open, open_closed, open_open, blank_token, one_token}
+use Rattle.qe_roundtrip.proofs.Pieces.{Fits, Parts, Open, Closed, opened, nothing, closed_open, open_open, blank_token}
 use Rattle.qe_roundtrip.proofs.Numerals.{IsName, literal_opens, zero_opens, exponent_opens, name_opens}
-use Rattle.qe_roundtrip.proofs.Derived.{name_at, power_by, power_at, times_at, lead_by, tail_by, lead_at, tail_at, minus_if, number_term, joint, front, sums_at, poly_at}
+use Rattle.qe_roundtrip.proofs.Derived.{power_by, power_at, times_at, lead_by, tail_by, lead_at, tail_at, minus_if, joint, front, sums_at, poly_at}
 
 -- ---- signs
 

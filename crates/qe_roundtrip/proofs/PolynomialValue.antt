@@ -1,33 +1,32 @@
 -- The derivation of a polynomial's text stands for the polynomial.
-use Rattle.std.proofs.Common.{ℕ, zero, suc, ◌+◌, ◌-◌, ◌^◌, ◌≡◌, ◌≢◌, ◌<◌, ◌≤◌, refl, sym, ap, subst, ◌∙◌, Bool, true, false, ◌||◌, cond, eqb, ltb, List, [], ◌∷◌, ◌++◌, append_assoc, append-nil, length, Option, Some, None, Result, Ok, Err, min, ℤ, pos, neg_ℤ, ◌*ℤ◌, unsigned_abs, arith}
+use Rattle.std.proofs.Common.{ℕ, ◌+◌, ◌-◌, ◌^◌, ◌≡◌, ◌≢◌, ◌<◌, ◌≤◌, refl, sym, ap, subst, ◌∙◌, Bool, true, false, ◌||◌, cond, eqb, ltb, List, [], ◌∷◌, ◌++◌, append_assoc, append-nil, length, Option, None, Ok, Err, ℤ, pos, neg_ℤ, ◌*ℤ◌, unsigned_abs, arith}
 use Rattle.std.specs.Prelude.{◌==◌, if◌then◌else◌, int_lt, codes, decimal}
-use Rattle.std.specs.List.{AllByRecursion, list_any}
-use Rattle.std.specs.Ordering.{int_eq, nat_cmp}
+use Rattle.std.specs.List.{list_any}
+use Rattle.std.specs.Ordering.{int_eq}
 use Rattle.std.specs.FinMap.Entries.{by_order}
 use Rattle.std.proofs.Math.Nat.{min-eq_left}
 use Rattle.std.proofs.lemmas.Int.{ints}
 use Rattle.std.proofs.lemmas.Bool.{le-ltb, eqb-true, false_from_ne_true}
 use Rattle.std.proofs.lemmas.Bool.Decides.{nat_tests, Decides-int_eq}
 use Rattle.qe_token.specs.declared.token.Name.{Name}
-use Rattle.qe_coef.specs.declared.Op.TheVariants.{Add, Sub, Mul}
+use Rattle.qe_coef.specs.declared.Op.TheVariants.{Add, Mul}
 use Rattle.qe_coef.specs.Range.{IsInRange}
 use Rattle.qe_poly.specs.declared.limit.PolyLimit.{PolyLimit}
 use Rattle.qe_poly.specs.declared.limit.PolyLimit.TheVariants.{Coefficient, Exponent, Monomials}
 use Rattle.qe_poly.specs.declared.monomial.Var.{Var}
 use Rattle.qe_poly.specs.declared.monomial.Power.{Power}
 use Rattle.qe_poly.specs.Monomial.{Monomial, times, is_high, IsAbove, IsMonomial}
-use Rattle.qe_poly.specs.Polynomial.{Term, Polynomial, IsPolynomial, gathered, collected, constant, power_of, negative, sum, difference, product, pairs, products}
-use Rattle.qe_poly.specs.Limits.{or_else, first_limit, limit_if, wide, sum_limit, magnitude_limit, product_limit}
+use Rattle.qe_poly.specs.Polynomial.{Term, Polynomial, IsPolynomial, gathered, collected, constant, power_of, negative, product, pairs, products}
+use Rattle.qe_poly.specs.Limits.{or_else, first_limit, limit_if, wide, magnitude_limit, product_limit}
 use Rattle.qe_poly.proofs.Parts.{nat_less}
 use Rattle.qe_poly.proofs.Constants.{wide-in_range}
 use Rattle.qe_print.specs.Polynomial.{name_of, power_text, factors_text, term_text, terms_text, polynomial_text}
-use Rattle.qe_syntax.specs.Tree.{TermTree, Variable, Addends, no_addend, addend, Factors, no_factor, factor}
+use Rattle.qe_syntax.specs.Tree.{TermTree, Addends, no_addend, addend, Factors, no_factor, factor}
 use Rattle.qe_syntax.specs.Grammar as grammar
 use Rattle.qe_syntax.specs.Grammar.{term_tree, sums_tree, product_tree, times_tree, signed_tree, power_tree}
-use Rattle.qe_read.specs.declared.value.Met.{Met}
-use Rattle.qe_read.specs.Value.{Value, next, at, added, multiplied, literal, value, summed, factored}
+use Rattle.qe_read.specs.Value.{Value, next, at, added, multiplied, value, summed, factored}
 use Rattle.qe_read.proofs.Variables.{Have, Has}
-use Rattle.qe_roundtrip.proofs.Derived.{name_at, power_by, power_at, times_at, lead_by, tail_by, lead_at, tail_at, minus_if, number_term, joint, front, sums_at, poly_at}
+use Rattle.qe_roundtrip.proofs.Derived.{name_at, power_by, power_at, times_at, lead_by, tail_by, lead_at, tail_at, minus_if, joint, front, sums_at, poly_at}
 use Rattle.qe_roundtrip.proofs.Legible.{IsStored}
 use Rattle.qe_roundtrip.proofs.Stored.{none_if, collected_same, more_added, more_taken, stored_front, stored_behind}
 use Rattle.qe_roundtrip.proofs.Sites.{At, at_front, at_behind}

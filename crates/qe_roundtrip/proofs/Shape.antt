@@ -1,5 +1,5 @@
 -- What the tree of a derivation is like: its exponents, the lengths of its lists, and how many atoms, constants and bound names begin in it.
-use Rattle.std.proofs.Common.{ℕ, suc, ◌+◌, ◌≡◌, ◌<◌, ◌≤◌, refl, sym, ap, subst, ◌∙◌, Bool, true, false, List, [], ◌∷◌, ◌++◌, ltb, nat_lt, arith}
+use Rattle.std.proofs.Common.{ℕ, suc, ◌+◌, ◌≡◌, ◌<◌, ◌≤◌, refl, sym, ap, ◌∙◌, Bool, true, false, List, nat_lt, arith}
 use Rattle.std.specs.Prelude.{if◌then◌else◌}
 use Rattle.std.proofs.lemmas.Bool.Decides.{nat_tests}
 use Rattle.qe_token.specs.declared.token.Name.{Name}
@@ -7,7 +7,7 @@ use Rattle.qe_syntax.specs.Tree.{TermTree, Addends, no_addend, addend, Factors, 
 use Rattle.qe_syntax.specs.Tree as tree
 use Rattle.qe_syntax.specs.Grammar.{Term, Sums, Product, Times, Signed, Power, Primary, Atom, sum, no_sum, sign, factors, no_times, times, negative, positive, base, raised, number, name, group, compare, Formula, Scope, Simple, Disj, Ors, Conj, Ands, Unary, quantified, open_formula, further, body, alone, joined, ors, no_or, or, ands, no_and, and, not, constant, bracket, atom, Mark, term, sums, product, timeses, signed, power, primary, comparison, formula, scope, simple, disj, orses, conj, andses, unary, term_tree, sums_tree, product_tree, times_tree, signed_tree, power_tree, primary_tree, atom_tree, formula_tree, scope_tree, simple_tree, disj_tree, ors_trees, conj_tree, ands_trees, unary_tree, summed, multiplied, conjoined, disjoined, bound, linked, constant_tree, is_name}
 use Rattle.qe_syntax.specs.Faults.{counted, most_exponent}
-use Rattle.qe_roundtrip.proofs.Pieces.{Fits, AllFit}
+use Rattle.qe_roundtrip.proofs.Pieces.{AllFit}
 
 -- ---- exponents, and lists of at least two parts
 
@@ -186,7 +186,7 @@ abbrev mutual
   begun_each (more f fs) = begun_in f + begun_each fs
 
 -- one more where a mark begins something
-abbrev one_if : Bool → ℕ → ℕ
+abbrev pub one_if : Bool → ℕ → ℕ
 one_if b k = if b then k + 1 else k
 
 mutual

@@ -1,5 +1,5 @@
 -- Where a text stands in a whole text.
-use Rattle.std.proofs.Common.{ℕ, ◌+◌, ◌≡◌, refl, sym, ap, subst, ◌∙◌, List, [], ◌++◌, append_assoc, append-nil, length, length-append, arith}
+use Rattle.std.proofs.Common.{ℕ, ◌+◌, ◌≡◌, refl, sym, ap, ◌∙◌, List, [], ◌++◌, append_assoc, append-nil, length, length-append, arith}
 use Rattle.qe_read.specs.Names.{letters}
 use Rattle.qe_read.proofs.Words.{letters_at}
 

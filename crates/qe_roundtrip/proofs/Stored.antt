@@ -1,5 +1,5 @@
 -- Polynomials within all limits: which results stay within, and which operations meet no limit.
-use Rattle.std.proofs.Common.{ℕ, zero, suc, ◌+◌, ◌-◌, ◌^◌, ◌≡◌, ◌≢◌, ◌<◌, ◌≤◌, refl, sym, ap, subst, ◌∙◌, Bool, true, false, ◌||◌, cond, ltb, eqb, List, [], ◌∷◌, ◌++◌, map, length, length-append, Option, Some, None, ℤ, pos, neg_ℤ, ◌+ℤ◌, unsigned_abs, arith}
+use Rattle.std.proofs.Common.{ℕ, suc, ◌+◌, ◌-◌, ◌^◌, ◌≡◌, ◌<◌, ◌≤◌, refl, sym, ap, subst, ◌∙◌, Bool, true, false, ◌||◌, cond, ltb, eqb, List, [], ◌∷◌, ◌++◌, map, length, length-append, Option, Some, None, ℤ, pos, neg_ℤ, ◌+ℤ◌, unsigned_abs, arith}
 use Rattle.std.specs.List.{list_any}
 use Rattle.std.specs.Ordering.{eq_by_cmp, int_eq}
 use Rattle.std.specs.FinMap.Entries.{find, by_order}
@@ -16,16 +16,17 @@ use Rattle.qe_coef.specs.Range.{IsInRange}
 use Rattle.qe_poly.specs.declared.limit.PolyLimit.{PolyLimit}
 use Rattle.qe_poly.specs.declared.limit.PolyLimit.TheVariants.{Coefficient, Exponent, Monomials}
 use Rattle.qe_poly.specs.declared.monomial.Var.{Var}
-use Rattle.qe_poly.specs.Monomial.{Monomial, power, in_turn, is_high, IsMonomial}
-use Rattle.qe_poly.specs.Polynomial.{Term, Polynomial, Group, IsBelow, IsPolynomial, coefficient, enter, with_first, gathered, total, nonzero, totals, collected, constant, power_of, negative, sum, difference, product, pairs, products}
+use Rattle.qe_poly.specs.Monomial.{Monomial, in_turn, is_high, IsMonomial}
+use Rattle.qe_poly.specs.Polynomial.{Term, Polynomial, Group, IsBelow, IsPolynomial, coefficient, enter, with_first, gathered, total, nonzero, collected, constant, power_of, negative, sum, difference, product, pairs, products}
 use Rattle.qe_poly.specs.Limits.{or_else, first_limit, limit_if, wide, sum_limit, magnitude_limit, product_limit}
 use Rattle.qe_poly.specs.Rows.{merged, kept_results}
-use Rattle.qe_poly.proofs.Sorted.{Each, under_keys}
+use Rattle.qe_poly.proofs.Sorted.{Each, Each-append, under_keys}
 use Rattle.qe_poly.proofs.Canonical.{or_zero, sorted_from, Each-monomial, IsPolynomial-collected, coefficient-collected, coefficient-append, coefficient_found, same_polynomial}
 use Rattle.qe_poly.proofs.MergedRows.{two_of, merged-is}
-use Rattle.qe_poly.proofs.MergedSums.{results-sum, results-difference, IsPolynomial-results, IsPolynomial-negative, IsPolynomial-difference, coefficient-difference}
+use Rattle.qe_poly.proofs.MergedSums.{results-sum, results-difference, IsPolynomial-results, IsPolynomial-negative, coefficient-difference}
 use Rattle.qe_poly.proofs.Products.{IsPolynomial-product}
 use Rattle.qe_poly.proofs.Constants.{IsPolynomial-constant, wide-in_range}
+use Rattle.qe_roundtrip.proofs.Pieces.{or_no}
 use Rattle.qe_roundtrip.proofs.Legible.{IsStored}
 
 -- ---- limits that are not met
@@ -67,10 +68,6 @@ each_map f P (x ∷ xs) h = (h.0, each_map f P xs h.1)
 each_from : {X : Type 0} (P Q : X → Type 0) (xs : List X) → ((x : X) → P x → Q x) → Each P xs → Each Q xs
 each_from P Q [] f h = tt
 each_from P Q (x ∷ xs) f h = (f x h.0, each_from P Q xs f h.1)
-
-each_append : {X : Type 0} (P : X → Type 0) (xs ys : List X) → Each P xs → Each P ys → Each P (xs ++ ys)
-each_append P [] ys h k = k
-each_append P (x ∷ xs) ys h k = (h.0, each_append P xs ys h.1 k)
 
 each_front : {X : Type 0} (P : X → Type 0) (xs ys : List X) → Each P (xs ++ ys) → Each P xs
 each_front P [] ys h = tt
@@ -145,7 +142,7 @@ combined op p q h k none =
     let limits = if_none (ltb 4096 (length groups)) Monomials (first_limit (λ g. wide op (coefficient p g.0) (coefficient q g.0)) groups) none in
     let few = at_most 4096 (length groups) limits.0 in
     let rows : merged p q ≡ under_keys (two_of p q) groups = merged-is p q (sorted_from p h.polynomial) (sorted_from q k.polynomial) in
-    let lows = each_gathered (λ m. is_high m ≡ false) (p ++ q) (each_append (λ t. is_high t.0 ≡ false) p q h.low k.low) in
+    let lows = each_gathered (λ m. is_high m ≡ false) (p ++ q) (Each-append (λ t. is_high t.0 ≡ false) p q h.low k.low) in
     let within = nonzero_within (results op p q groups) (range_results op p q groups (each_none (λ (g : Group). wide op (coefficient p g.0) (coefficient q g.0)) groups limits.1)) (low_results op p q groups lows) in
     stored_within (length (results op p q groups)) (kept_results op (merged p q)) (IsPolynomial-results op p q h.polynomial k.polynomial)
     (subst (λ rs. Within (length (results op p q groups)) (kept_results op rs)) (sym rows) within) (omega (arith, few_results op p q groups, few))
@@ -171,10 +168,6 @@ small_total s (c ∷ cs) h none =
 
 total_in_range : (cs : List ℤ) → magnitude_limit 0 cs ≡ None → IsInRange (total cs)
 total_in_range cs none = let low : 0 ≤ 2 ^ 127 - 1 = omega arith in omega (arith, small_total 0 cs low none)
-
-or_no : (x y : Bool) → (x || y) ≡ false → (x ≡ false) × (y ≡ false)
-or_no true y h = absurd (cc)
-or_no false y h = (refl, h)
 
 none_high : (ts : List Term) → list_any (λ t. is_high t.0) ts ≡ false → Each (λ t. is_high t.0 ≡ false) ts
 none_high [] h = tt

@@ -1,7 +1,6 @@
 -- The value of a term is within all limits.
-use Rattle.std.proofs.Common.{ℕ, zero, suc, ◌-◌, ◌^◌, ◌≡◌, ◌<◌, ◌≤◌, refl, sym, subst, min, pos, unsigned_abs, Bool, true, false, Option, Some, None, Ok, Err, arith}
+use Rattle.std.proofs.Common.{ℕ, zero, suc, ◌-◌, ◌^◌, ◌≡◌, ◌<◌, ◌≤◌, refl, subst, min, pos, Bool, true, false, Option, Some, None, Ok, arith}
 use Rattle.qe_coef.specs.declared.Op.TheVariants.{Add, Sub}
-use Rattle.qe_coef.specs.Range.{IsInRange}
 use Rattle.qe_token.specs.declared.token.Name.{Name}
 use Rattle.qe_poly.specs.declared.limit.PolyLimit.{PolyLimit}
 use Rattle.qe_poly.specs.declared.monomial.Var.{Var}
