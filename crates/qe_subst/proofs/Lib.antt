@@ -1,1 +1,5 @@
 pub mod Slope
+pub mod ProperSigns
+pub mod Made
+pub mod Sizes
+pub mod Turns
