@@ -1,0 +1,5 @@
+pub mod Fault
+pub mod Substituted
+pub mod Stop
+pub mod Left
+pub mod Canonical
