@@ -1,7 +1,6 @@
 -- The candidates of a formula are enough.
-use Rattle.std.proofs.Common.{ℕ, suc, ◌≡◌, ◌∙◌, ◌≤◌, ◌<◌, ◌⊎◌, inl, inr, refl, sym, ap, subst, Bool, true, false, not, cond, eqb, max, List, [], ◌∷◌, ◌++◌, map, length, get_or, arith}
+use Rattle.std.proofs.Common.{ℕ, suc, ◌≡◌, ◌∙◌, ◌≤◌, ◌<◌, inl, inr, refl, sym, ap, subst, Bool, true, false, not, cond, eqb, max, List, [], ◌∷◌, ◌++◌, map, length, get_or, arith}
 use Rattle.std.specs.Prelude.{◌&&◌, nat_lt}
-use Rattle.std.specs.List.{flat_map}
 use Rattle.std.proofs.lemmas.Bool.Decides.{nat_tests}
 use Rattle.qe_tower.specs.Point.{Point, IsPoint}
 use Rattle.qe_tower.proofs.ValidNumbers.{ValidNumber, valid_operations, valid_sign}
@@ -14,7 +13,7 @@ use Rattle.qe_line.proofs.Reach.{root_place, reached}
 use Rattle.qe_poly.specs.Polynomial.{Polynomial, IsPolynomial}
 use Rattle.qe_poly.specs.Coefficients.{degree_in}
 use Rattle.qe_form.specs.declared.form.Atom as atom
-use Rattle.qe_form.specs.Formula.{Formula, Formulas, True, False, Atom, And, Or, Not, Implies, Iff, Ex, All, no_more, more}
+use Rattle.qe_form.specs.Formula.{Formula, Formulas, Atom, And, Or, Ex, no_more, more}
 use Rattle.qe_form.specs.Measures.{degree, degree_of_some}
 use Rattle.qe_form.specs.Plain.{IsPlain}
 use Rattle.qe_form.specs.Same.{OccursInSome, IsFree, IsFreeInSome}
@@ -22,18 +21,18 @@ use Rattle.qe_form.specs.Truth.{Is}
 use Rattle.qe_form.proofs.TwoSides.{never_both, decided}
 use Rattle.qe_simp.proofs.Shapes.{plain_no_quantifier}
 use Rattle.qe_root.specs.Atoms.{atoms, atoms_of}
-use Rattle.qe_root.specs.Holds.{StandsAt, HoldsAt}
+use Rattle.qe_root.specs.Holds.{StandsAt}
 use Rattle.qe_points.specs.declared.candidate.Which.{Which}
 use Rattle.qe_points.specs.declared.candidate.Which.TheVariants.{Linear, Upper, Lower}
 use Rattle.qe_points.specs.declared.candidate.Candidate.{Candidate}
 use Rattle.qe_points.specs.declared.candidate.Candidate.TheVariants.{Root, MinusInf}
 use Rattle.qe_points.specs.Candidates.{Numbered, gives, numbered, distinct, roots_of, roots, candidates}
-use Rattle.qe_points.specs.Guard.{guard, root_guard, turned, root, point_of}
-use Rattle.qe_points.specs.Guarded.{Fits, OccursInOwn, IsOf}
+use Rattle.qe_points.specs.Guard.{guard, turned, root, point_of}
+use Rattle.qe_points.specs.Guarded.{Fits, IsOf}
 use Rattle.qe_points.specs.Complete.{HoldsAtCandidate, HoldsAtOne, IsComplete}
 use Rattle.qe_points.proofs.Members.{IsIn, in_left, in_right, of_append, in_flat, of_flat, of_map, all_in, of_all, in_distinct, of_distinct}
-use Rattle.qe_points.proofs.OnLine.{coefficient, IsRootOf, atom_reaches, formula_reaches}
-use Rattle.qe_points.proofs.Roots.{kind_of, IsRootAt, to_value, turned_value, to_root, has_degree, guard_true}
+use Rattle.qe_points.proofs.OnLine.{IsRootOf, atom_reaches, formula_reaches}
+use Rattle.qe_points.proofs.Roots.{IsRootAt, to_value, turned_value, to_root, has_degree, guard_true}
 
 -- ---- the atoms of a formula
 
@@ -255,8 +254,7 @@ module _ (x : ℕ) (f : Formula) (p : Point) (valid : IsPoint p) where
       by : (zero : Bool) → a.signs.zero ≡ zero → IsPlaceOfOne x (candidates x f) f p (root_place zero r)
       by true e =
           let g = in_group true a i (positive a.poly which fits) e in
-          let h : IsRootAt p valid x g.0.0 which r = subst (λ q. IsRootAt p valid x q which r) (sym g.2) h in
-          (
+          let h : IsRootAt p valid x g.0.0 which r = subst (λ q. IsRootAt p valid x q which r) (sym g.2) h in (
             Root g.0.0 g.0.1 which false,
             at_plain g.0 which g.1 (subst (λ q. Fits x q which) (sym g.2) fits),
             guard_true p valid x g.0.0 which r h,
@@ -264,8 +262,7 @@ module _ (x : ℕ) (f : Formula) (p : Point) (valid : IsPoint p) where
           )
       by false e =
           let g = in_group false a i (positive a.poly which fits) (ap not e) in
-          let h : IsRootAt p valid x g.0.0 which r = subst (λ q. IsRootAt p valid x q which r) (sym g.2) h in
-          (
+          let h : IsRootAt p valid x g.0.0 which r = subst (λ q. IsRootAt p valid x q which r) (sym g.2) h in (
             Root g.0.0 g.0.1 which true,
             at_plus g.0 which g.1 (subst (λ q. Fits x q which) (sym g.2) fits),
             guard_true p valid x g.0.0 which r h,

@@ -1,5 +1,5 @@
 -- Formulas with And and Or over polynomials of degree two at most in one variable, as that variable goes along the line of the numbers.
-use Rattle.std.proofs.Common.{ℕ, ◌≡◌, ◌∙◌, ◌≤◌, inl, inr, ◌↔◌, refl, sym, ap, subst, Bool, true, false, T, ◌∷◌}
+use Rattle.std.proofs.Common.{ℕ, ◌≡◌, ◌∙◌, ◌≤◌, inl, inr, refl, sym, ap, subst, Bool, true, false, T, ◌∷◌}
 use Rattle.qe_ring.specs.Sign.{Sign}
 use Rattle.qe_tower.specs.Number.{sign_of}
 use Rattle.qe_tower.specs.Point.{Point, IsPoint}

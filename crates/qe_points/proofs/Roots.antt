@@ -1,11 +1,11 @@
 -- The values of a candidate's root are the roots of its polynomial, and its guard says that there is one.
-use Rattle.std.proofs.Common.{ℕ, zero as nought, suc, ◌≡◌, ◌∙◌, ◌≤◌, ◌<◌, refl, sym, ap, subst, Bool, true, false, cond, eqb, ℤ, pos, negsuc, [], ◌∷◌, Some, arith}
+use Rattle.std.proofs.Common.{ℕ, zero as nought, suc, ◌≡◌, ◌∙◌, ◌≤◌, ◌<◌, refl, sym, ap, subst, Bool, true, false, cond, eqb, pos, negsuc, [], ◌∷◌, arith}
 use Rattle.std.proofs.lemmas.Bool.Decides.{nat_tests}
-use Rattle.qe_ring.specs.Ring.{Operations, IsRing}
+use Rattle.qe_ring.specs.Ring.{IsRing}
 use Rattle.qe_ring.specs.Expression.{of_int, var, unit, ⊖◌}
 use Rattle.qe_ring.specs.Sign.{Sign, Minus, Zero, Plus, IsNotMinus, IsNotZero, ◌·◌}
 use Rattle.qe_ring.proofs.Hypotheses.{fact}
-use Rattle.qe_tower.specs.Number.{Number, whole_number, sign_of}
+use Rattle.qe_tower.specs.Number.{whole_number, sign_of}
 use Rattle.qe_tower.specs.Point.{Point, IsPoint}
 use Rattle.qe_tower.proofs.ValidNumbers.{ValidNumber, valid_operations, valid_sign, ValidEqual, valid_ordered}
 use Rattle.qe_line.specs.Quadratic.{Kind, linear, upper, lower, IsRootValue, IsRootOfKind}
@@ -15,7 +15,7 @@ use Rattle.qe_line.proofs.AtRoot.{zero_at_root}
 use Rattle.qe_line.proofs.Equal.{value_same}
 use Rattle.qe_line.proofs.Field.{equal_by, two_plus}
 use Rattle.qe_line.proofs.Values.{has_value, value_turned}
-use Rattle.qe_poly.specs.Polynomial.{Polynomial, IsPolynomial, constant, negative, product, difference}
+use Rattle.qe_poly.specs.Polynomial.{Polynomial, IsPolynomial, constant, negative, product}
 use Rattle.qe_poly.specs.Coefficients.{degree_in, coefficient_in}
 use Rattle.qe_poly.specs.Value.{scaled}
 use Rattle.qe_form.specs.Value.{value}
@@ -26,10 +26,10 @@ use Rattle.qe_root.specs.SignForm.{equal, not_equal, at_least}
 use Rattle.qe_root.specs.Value.{IsValue}
 use Rattle.qe_points.specs.declared.candidate.Which.{Which}
 use Rattle.qe_points.specs.declared.candidate.Which.TheVariants.{Linear, Upper, Lower}
-use Rattle.qe_points.specs.Guard.{atomic, both, discriminant, discriminant_of, linear_guard, square_guard, root_guard, is_negative, turned, linear_root, square_root, root}
+use Rattle.qe_points.specs.Guard.{atomic, both, discriminant, discriminant_of, linear_guard, square_guard, root_guard, is_negative, turned, square_root, root}
 use Rattle.qe_points.specs.Guarded.{Fits}
 use Rattle.qe_points.proofs.Occurring.{coefficient_past}
-use Rattle.qe_points.proofs.OnLine.{coefficient, sign_on, sign_with}
+use Rattle.qe_points.proofs.OnLine.{sign_with}
 
 -- ---- signs
 
@@ -207,8 +207,11 @@ module _ (p : Point) (valid : IsPoint p) where
 
     -- and the other way
     pub of_root : (which : Which) (v : ValidNumber) → IsFlat which → IsValidRoot (root x f which) v → IsRootAt which v
-    of_root Linear v flat h = (flat, value_same numbers (val (negative (coefficient_in x 0 f))) (val []) (val []) B v (neg C) zero zero B v
-        (negated_is (coefficient_in x 0 f)) refl refl (R.same B) (R.same v) h)
+    of_root Linear v flat h = (
+      flat,
+      value_same numbers (val (negative (coefficient_in x 0 f))) (val []) (val []) B v (neg C) zero zero B v
+          (negated_is (coefficient_in x 0 f)) refl refl (R.same B) (R.same v) h,
+    )
     of_root Upper v flat h = of_square one (constant (pos 1)) v refl h
     of_root Lower v flat h = of_square (neg one) (constant (negsuc 0)) v refl h
 

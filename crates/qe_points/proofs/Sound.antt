@@ -1,12 +1,15 @@
 -- The guard of a candidate says that its point is there, and in both stand only variables of its polynomial other than x.
-use Rattle.std.proofs.Common.{ℕ, ◌≡◌, ◌≢◌, ◌≤◌, ◌⊎◌, inl, inr, refl, sym, subst, Bool, true, false, cond, eqb, pos, negsuc, Some, None, Option, Result, Ok, Err, IfOk, IfSome, arith}
+use Rattle.std.proofs.Common.{ℕ, ◌≡◌, ◌≢◌, ◌≤◌, inl, inr, sym, subst, Bool, true, false, cond, eqb, pos, negsuc, Some, None, Option, Result, Ok, Err, IsErr, IsErrAnd, IfSome, arith}
 use Rattle.qe_tower.specs.Point as assignment
 use Rattle.qe_tower.proofs.ValidNumbers.{ValidNumber}
 use Rattle.qe_line.specs.Place.{Place, below, at, above}
 use Rattle.qe_poly.specs.Polynomial.{Polynomial, IsPolynomial, constant, negative, product}
 use Rattle.qe_poly.specs.Coefficients.{degree_in, coefficient_in}
 use Rattle.qe_poly.specs.Value.{scaled}
-use Rattle.qe_form.specs.Formula.{Formula, True}
+use Rattle.qe_poly.specs.declared.limit.PolyLimit.{PolyLimit}
+use Rattle.qe_poly.specs.declared.limit.PolyStop.{PolyStop}
+use Rattle.qe_poly.specs.Limits.{IsStop}
+use Rattle.qe_form.specs.Formula.{Formula}
 use Rattle.qe_form.specs.Plain.{IsPlain}
 use Rattle.qe_form.specs.Same.{OccursInSome, IsFree}
 use Rattle.qe_form.specs.Tree.{tree}
@@ -18,15 +21,19 @@ use Rattle.qe_root.specs.declared.point.RootPoint.{RootPoint}
 use Rattle.qe_root.specs.declared.point.Point.{Point}
 use Rattle.qe_root.specs.declared.point.Point.TheVariants as point
 use Rattle.qe_root.specs.Holds.{StandsAt, OwnIsZero}
+use Rattle.qe_root.specs.Outcome.{IsOutcome}
 use Rattle.qe_root.specs.Value.{IsValue}
 use Rattle.qe_root.specs.SignForm.{equal, not_equal}
 use Rattle.qe_points.specs.declared.candidate.Which.{Which}
 use Rattle.qe_points.specs.declared.candidate.Which.TheVariants.{Linear, Upper, Lower}
-use Rattle.qe_points.specs.declared.candidate.Candidate.TheVariants.{Root, MinusInf}
-use Rattle.qe_points.specs.Guard.{atomic, both, discriminant_of, linear_guard, square_guard, root_guard, is_negative, turned, linear_root, square_root, root, at_root}
-use Rattle.qe_points.specs.Guarded.{Fits, IsThere, OccursInOwn, OccursInRoot, OccursInPoint, IsSound}
+use Rattle.qe_points.specs.declared.candidate.Candidate.{Candidate}
+use Rattle.qe_points.specs.declared.candidate.Candidate.TheVariants.{Root}
+use Rattle.qe_points.specs.declared.guard.GuardedPoint.{GuardedPoint}
+use Rattle.qe_points.specs.declared.guard.RootWithGuard.{RootWithGuard}
+use Rattle.qe_points.specs.Guard.{atomic, both, discriminant_of, root_guard, is_negative, turned, square_root, root, at_root}
+use Rattle.qe_points.specs.Guarded.{Fits, HasRoot, IsMade, IsGuarded, IsThere, OccursInRoot, OccursInPoint, IsSound}
 use Rattle.qe_points.proofs.Occurring.{occurs_coefficient, occurs_negative, occurs_scaled, occurs_difference, occurs_product}
-use Rattle.qe_points.proofs.Roots.{IsRootAt, to_value, of_value, turned_value, of_turned, to_root, of_root, guard_flat, root_exists, zero_there}
+use Rattle.qe_points.proofs.Roots.{to_value, of_value, turned_value, of_turned, to_root, of_root, guard_flat, root_exists, zero_there}
 
 -- ---- which variables occur
 
@@ -74,13 +81,13 @@ module _ (x : ℕ) (f : Polynomial) (canonical : IsPolynomial f) (y : ℕ) where
   of_square_root q none (inr (inr (inl h))) = of_discriminant h
   of_square_root q none (inr (inr (inr h))) = of_coefficient 2 (occurs_scaled y (pos 2) (coefficient_in x 2 f) h)
 
-  of_root : (which : Which) → OccursInRoot y (root x f which) → IsOther
-  of_root Linear (inl h) = of_coefficient 0 (occurs_negative y (coefficient_in x 0 f) h)
-  of_root Linear (inr (inl h)) = absurd h
-  of_root Linear (inr (inr (inl h))) = absurd h
-  of_root Linear (inr (inr (inr h))) = of_coefficient 1 h
-  of_root Upper h = of_square_root (constant (pos 1)) (λ k. elim k [ inl m ↦ absurd m | inr m ↦ absurd m ]) h
-  of_root Lower h = of_square_root (constant (negsuc 0)) (λ k. elim k [ inl m ↦ absurd m | inr m ↦ absurd m ]) h
+  of_parts : (which : Which) → OccursInRoot y (root x f which) → IsOther
+  of_parts Linear (inl h) = of_coefficient 0 (occurs_negative y (coefficient_in x 0 f) h)
+  of_parts Linear (inr (inl h)) = absurd h
+  of_parts Linear (inr (inr (inl h))) = absurd h
+  of_parts Linear (inr (inr (inr h))) = of_coefficient 1 h
+  of_parts Upper h = of_square_root (constant (pos 1)) (λ k. elim k [ inl m ↦ absurd m | inr m ↦ absurd m ]) h
+  of_parts Lower h = of_square_root (constant (negsuc 0)) (λ k. elim k [ inl m ↦ absurd m | inr m ↦ absurd m ]) h
 
   turned_has : (k : RootPoint) → OccursInRoot y (turned k) → OccursInRoot y k
   turned_has k = by (is_negative k.s)
@@ -93,8 +100,8 @@ module _ (x : ℕ) (f : Polynomial) (canonical : IsPolynomial f) (y : ℕ) where
       by false h = h
 
   of_point : (plus : Bool) (which : Which) → OccursInPoint y (at_root plus (turned (root x f which))) → IsOther
-  of_point true which h = of_root which (turned_has (root x f which) h)
-  of_point false which h = of_root which (turned_has (root x f which) h)
+  of_point true which h = of_parts which (turned_has (root x f which) h)
+  of_point false which h = of_parts which (turned_has (root x f which) h)
 
 -- ---- the point is there
 
@@ -154,3 +161,19 @@ pub made_sound : (x : ℕ) (f : Polynomial) (n : ℕ) (which : Which) (plus : Bo
 made_sound x f n which plus guard g p k canonical fits guard_is root_is point_is kept simple =
     subst (λ z. IsSound x (Root f n which plus) g z) (sym (subst (λ z. p ≡ at_root plus (turned z)) root_is point_is))
     (sound_root x f n which canonical fits plus g (subst (λ z. Keeps z g) guard_is kept) (simple (subst IsPlain (sym guard_is) (plain_guard x f which))))
+
+pub answer_sound : (x : ℕ) (c : Candidate) (f : Polynomial) (n : ℕ) (which : Which) (plus : Bool) (found : RootWithGuard) (o : Option GuardedPoint) → c ≡ Root f n which plus
+    → IsPolynomial f → IsMade (root_guard x f which) (root x f which) found → IsGuarded (tree found.guard) (at_root plus (turned found.root)) o
+    → IfSome o (λ g. Keeps (tree found.guard) (tree g.guard)) → IfSome o (λ g. IsPlain (tree found.guard) → IsSimplified (tree g.guard))
+    → HasRoot x c → IfSome o (λ g. IsSound x c (tree g.guard) g.point)
+answer_sound x c f n which plus found None is canonical made guarded kept simple fits = tt
+answer_sound x c f n which plus found (Some g) is canonical made guarded kept simple fits =
+    subst (λ z. IsSound x z (tree g.guard) g.point) (sym is)
+    (made_sound x f n which plus (tree found.guard) (tree g.guard) g.point found.root canonical (subst (λ z. HasRoot x z) is fits) made.0 made.1 guarded.1.1 kept simple)
+
+-- ---- a refusal that is handed on
+
+pub handed_on : {A : Type 0} (met limit : Option PolyLimit) (P : A → Type 0) (result : Result A PolyStop) (stop : PolyStop) → IsErr result → IsErrAnd result (λ e. e ≡ stop)
+    → met ≡ limit → IsStop met stop → IsOutcome limit P result
+handed_on met limit P (Ok a) stop failed same is is_stop = absurd (cc)
+handed_on met limit P (Err e) stop failed same is is_stop = subst (λ l. IsStop l e) is (subst (λ s. IsStop met s) (sym same) is_stop)

@@ -1,5 +1,5 @@
 -- The guard and the point of a candidate, by the coefficients of its polynomial a*x^2 + b*x + c.
-use Rattle.std.specs.Prelude.{ℕ, pos, negsuc, Bool, false, eqb, cond, [], ◌∷◌, Option, Some, None}
+use Rattle.std.specs.Prelude.{ℕ, pos, negsuc, Bool, false, eqb, cond, [], ◌∷◌, Option, None}
 use Rattle.std.specs.Int.RustNames.{int_lt}
 use Rattle.qe_coef.specs.declared.Op.TheVariants.{Sub}
 use Rattle.qe_poly.specs.declared.limit.PolyLimit.{PolyLimit}
@@ -92,8 +92,8 @@ point_of x MinusInf = point.MinusInf
 abbrev pub square_limit : (a b c : Polynomial) → Option PolyLimit
 square_limit a b c =
     first (
-        product_limit b b ∷ product_limit a c ∷ scale_limit (pos 4) (product a c) ∷ sum_limit Sub (product b b) (scaled (pos 4) (product a c))
-        ∷ scale_limit (pos 2) a ∷ [])
+    product_limit b b ∷ product_limit a c ∷ scale_limit (pos 4) (product a c) ∷ sum_limit Sub (product b b) (scaled (pos 4) (product a c))
+    ∷ scale_limit (pos 2) a ∷ [])
 
 abbrev pub square_limit_of : ℕ → Polynomial → Option PolyLimit
 square_limit_of x f = square_limit (coefficient_in x 2 f) (coefficient_in x 1 f) (coefficient_in x 0 f)

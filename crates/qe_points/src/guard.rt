@@ -115,8 +115,15 @@ fn square_root(alloc: Global, poly: &Poly, x: Var, q: Poly) -> Result<RootWithGu
     let (r, s) = square_parts(alloc, &square, &slope, &free)?;
     let p = slope.neg(alloc)?;
     let has_two = atom(square, Signs::of(true, false, true));
-    let guard = both(alloc, has_two, atom(r.copy(alloc)?, Signs::of(false, true, true)))?;
-    Ok(RootWithGuard { guard, root: RootPoint { p, q, r, s } })
+    let guard = both(
+        alloc,
+        has_two,
+        atom(r.copy(alloc)?, Signs::of(false, true, true)),
+    )?;
+    Ok(RootWithGuard {
+        guard,
+        root: RootPoint { p, q, r, s },
+    })
 }
 
 /// The root of the kind with its guard.
@@ -149,7 +156,12 @@ fn turned(alloc: Global, root: RootPoint) -> Result<RootPoint, OutOfMemory>
         return Ok(root);
     }
     let RootPoint { p, q, r, s } = root;
-    Ok(RootPoint { p: p.neg(alloc)?, q: q.neg(alloc)?, r, s: s.neg(alloc)? })
+    Ok(RootPoint {
+        p: p.neg(alloc)?,
+        q: q.neg(alloc)?,
+        r,
+        s: s.neg(alloc)?,
+    })
 }
 
 /// Whether it is the formula `False`.
@@ -163,7 +175,11 @@ fn is_false(form: &Form) -> bool
 }
 
 /// The simplified guard with the root, or with what is just above it; `None` where that guard is `False`.
-fn guarded_root(alloc: Global, found: RootWithGuard, plus: bool) -> Result<Option<GuardedPoint>, OutOfMemory>
+fn guarded_root(
+    alloc: Global,
+    found: RootWithGuard,
+    plus: bool,
+) -> Result<Option<GuardedPoint>, OutOfMemory>
     ensures exact { IfOk result (IsGuarded (tree found.guard) (meaning.at_root plus (meaning.turned found.root))) }
     ensures kept { IfOk result (λ o. IfSome o (λ g. Keeps (tree found.guard) (tree g.guard))) }
     ensures plain { IfOk result (λ o. IfSome o (λ g. IsPlain (tree found.guard) → IsSimplified (tree g.guard))) }
@@ -174,7 +190,11 @@ fn guarded_root(alloc: Global, found: RootWithGuard, plus: bool) -> Result<Optio
         return Ok(None);
     }
     let root = turned(alloc, root)?;
-    let point = if plus { Point::RootPlus(root) } else { Point::Root(root) };
+    let point = if plus {
+        Point::RootPlus(root)
+    } else {
+        Point::Root(root)
+    };
     Ok(Some(GuardedPoint { guard, point }))
 }
 
@@ -183,7 +203,11 @@ fn stopped(atom: u64, stop: PolyStop) -> SubstStop
     ensures { result ≡ stop_at atom stop }
 {
     match stop {
-        PolyStop::Limit(limit) => SubstStop::At { atom, stage: Stage::Guard, limit },
+        PolyStop::Limit(limit) => SubstStop::At {
+            atom,
+            stage: Stage::Guard,
+            limit,
+        },
         PolyStop::OutOfMemory => SubstStop::OutOfMemory,
     }
 }
@@ -209,8 +233,16 @@ pub fn guarded(
     ensures sound { HasRoot x.0 candidate.now → IfOk result (λ found. IfSome found (λ g. IsSound x.0 candidate.now (tree g.guard) g.point)) }
 {
     match candidate {
-        Candidate::MinusInf => Ok(Some(GuardedPoint { guard: Form::True, point: Point::MinusInf })),
-        Candidate::Root { poly, atom, which, plus } => match root(alloc, poly, x, *which) {
+        Candidate::MinusInf => Ok(Some(GuardedPoint {
+            guard: Form::True,
+            point: Point::MinusInf,
+        })),
+        Candidate::Root {
+            poly,
+            atom,
+            which,
+            plus,
+        } => match root(alloc, poly, x, *which) {
             Ok(found) => Ok(guarded_root(alloc, found, *plus)?),
             Err(stop) => Err(stopped(*atom, stop)),
         },
