@@ -1,15 +1,20 @@
 //! Nodes of the elimination of a block of quantifiers: a formula with the variables that are to be eliminated from it.
-//! Knows nothing of trees of nodes and of blocks.
+//! Knows nothing of the tree of a block's nodes.
 #![tactic(auto)]
 
-ghost use Rattle.std.specs.Prelude.{◌≡◌, ℕ, List};
-ghost use Rattle.qe_form.specs.Formula.{Formula};
-ghost use Rattle.qe_node.specs.Key.{key, formula_of};
-ghost use Rattle.qe_node.specs.KeyLaws.{formula-key};
+mod growth;
+mod node;
+mod start;
+mod stop;
 
+pub use node::Node;
+pub use qe_form::{Form, Sequence, Var};
+pub use qe_poly::PolyLimit;
+pub use qe_root::Stage;
+pub use start::root;
 pub use std::alloc::AllocError as OutOfMemory;
+pub use stop::NodeStop;
+pub use growth::{ExpandStop, Successor, successors};
 
-/// t
-pub fn key_law()
-    ensures { (v : List ℕ) (f : Formula) → formula_of (key v f) ≡ f }
-{}
+/// Variables in order.
+pub type Vars = Sequence<Var>;
