@@ -12,7 +12,7 @@ nests-spelled : (s : Nest) (ns : List ℕ) → nests (spelled s ++ ns) ≡ s ∷
 nests-spelled (one n) ns = refl
 nests-spelled (two s t) ns =
     ap (λ ms. paired (nests ms)) (append_assoc (spelled s) (spelled t) ns)
-    ∙ ap paired (nests-spelled s (spelled t ++ ns) ∙ ap (s ∷_) (nests-spelled t ns))
+    ∙ ap paired (nests-spelled s (spelled t ++ ns) ∙ ap (λ ms. s ∷ ms) (nests-spelled t ns))
 
 first-spelled : (s : Nest) → first_nest (nests (spelled s)) ≡ s
 first-spelled s = ap (λ ns. first_nest (nests ns)) (sym (append-nil (spelled s))) ∙ ap first_nest (nests-spelled s [])
