@@ -1,0 +1,4 @@
+pub mod Occurs
+pub mod SameNumbers
+pub mod Quantified
+pub mod Growth
