@@ -1,5 +1,5 @@
 -- What holds of places holds of the first places of their formulas, and the other way round.
-use Rattle.std.proofs.Common.{◌≡◌, ◌∙◌, sym, ap, refl, subst, inl, inr, ◌⊎◌, Bool, true, false, cond, ◌||◌, List, [], ◌∷◌}
+use Rattle.std.proofs.Common.{◌≡◌, sym, refl, subst, inl, inr, ◌⊎◌, Bool, true, false, cond, ◌||◌, List, [], ◌∷◌}
 use Rattle.std.specs.declared.cmp.Ordering.{Ordering}
 use Rattle.std.specs.declared.cmp.Ordering.TheVariants as ordering
 use Rattle.std.specs.Ordering.{is_eq}
@@ -64,9 +64,9 @@ module _ (P : Formula → Type 0) where
   some_firsts_or met (p ∷ ps) = elim (is_among p.form met) as (λ b. is_among p.form met ≡ b → P p.form ⊎ SomeForm P ps → Some met ⊎ SomeForm P (cond b (first_places met ps) (p ∷ first_places (p.form ∷ met) ps))) [
     | true ↦ λ found some. elim some [ inl x ↦ inl (in_some p.form met (among_in p.form met found) x) | inr y ↦ some_firsts_or met ps y ]
     | false ↦ λ new some. elim some [
-        | inl x ↦ inr (inl x)
-        | inr y ↦ elim (some_firsts_or (p.form ∷ met) ps y) [ inl z ↦ elim z [ inl u ↦ inr (inl u) | inr v ↦ inl v ] | inr w ↦ inr (inr w) ]
-      ]
+      | inl x ↦ inr (inl x)
+      | inr y ↦ elim (some_firsts_or (p.form ∷ met) ps y) [ inl z ↦ elim z [ inl u ↦ inr (inl u) | inr v ↦ inl v ] | inr w ↦ inr (inr w) ]
+    ]
   ] refl
 
   pub some_firsts : (ps : List Place) → SomeForm P ps → SomeForm P (first_places [] ps)

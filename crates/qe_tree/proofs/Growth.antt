@@ -1,19 +1,18 @@
 -- A node is true for some values of its variables exactly where some successor is.
-use Rattle.std.proofs.Common.{ℕ, ◌≡◌, ◌≢◌, inl, inr, ◌↔◌, true, List, [], ◌∷◌, map}
+use Rattle.std.proofs.Common.{ℕ, ◌≡◌, inl, inr, ◌↔◌, true, List, [], ◌∷◌, map}
 use Rattle.qe_tower.specs.Point.{Point, IsPoint}
 use Rattle.qe_form.specs.declared.form.Atom as atom
 use Rattle.qe_form.specs.Formula.{Formula, Formulas, True, False, Atom, And, Or, Not, Implies, Iff, Ex, All, no_more, more}
 use Rattle.qe_form.specs.Tree.{trees_of}
-use Rattle.qe_form.specs.Measures.{Has}
 use Rattle.qe_form.specs.Truth.{Is, SomeIs}
 use Rattle.qe_form.specs.Same.{HasNoQuantifier, HaveNoQuantifier}
 use Rattle.qe_form.specs.Plain.{IsPlainWith, ArePlainWith}
-use Rattle.qe_tree.specs.Variables.{remaining, under_ex}
+use Rattle.qe_tree.specs.Variables.{remaining}
 use Rattle.qe_tree.specs.Expanded.{Expansion, successors}
-use Rattle.qe_tree.specs.Sound.{IsIn, Each, IsFine, forms_of, IsGrown, IsSound}
-use Rattle.qe_tree.specs.Laws.{whole, GrowthKeepsTruth}
+use Rattle.qe_tree.specs.Sound.{Each, IsFine, forms_of, IsGrown, IsSound}
+use Rattle.qe_tree.specs.Laws.{whole}
 use Rattle.qe_tree.proofs.Occurs.{left_in}
-use Rattle.qe_tree.proofs.Quantified.{Off, Reaches, whole_reaches, reaches_whole, reaches_ex, ex_reaches}
+use Rattle.qe_tree.proofs.Quantified.{Off, whole_reaches, reaches_whole, reaches_ex, ex_reaches}
 
 mutual
   -- a plain formula has no quantifier

@@ -4,3 +4,6 @@ pub mod Quantified
 pub mod Growth
 pub mod Walks
 pub mod FirstPlaces
+pub mod Leaves
+pub mod Stands
+pub mod Blocks

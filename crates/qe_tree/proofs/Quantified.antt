@@ -1,7 +1,7 @@
 -- Truth under `ex` of variables: the formula is true at a point that differs in the numbers of these alone.
-use Rattle.std.proofs.Common.{ℕ, ◌≡◌, ◌≢◌, ◌∙◌, sym, ap, refl, subst, ◌⊎◌, inl, inr, ◌↔◌, Bool, true, false, eqb, List, [], ◌∷◌, Some, if◌then◌else◌}
+use Rattle.std.proofs.Common.{ℕ, ◌≡◌, ◌≢◌, ◌∙◌, sym, ap, refl, subst, ◌⊎◌, inl, inr, ◌↔◌, true, false, eqb, List, [], ◌∷◌, Some, if◌then◌else◌}
 use Rattle.std.proofs.lemmas.Bool.{eq-eqb, eqb-true}
-use Rattle.qe_tower.specs.Number.{Number, IsNumber}
+use Rattle.qe_tower.specs.Number.{Number}
 use Rattle.qe_tower.specs.Point.{Point, IsPoint, look_up, or_zero, number_at}
 use Rattle.qe_form.specs.Formula.{Formula, Ex}
 use Rattle.qe_form.specs.Truth.{Is}
@@ -50,9 +50,9 @@ number_at-pick [] r p y h = elim h [ inl never ↦ absurd never | inr same ↦ s
 number_at-pick (x ∷ xs) r p y h = number_at-pick xs r ((x, number_at r x) ∷ p) y (elim (own_entry x r p y) [
   | inl own ↦ inr (sym own)
   | inr apart ↦ elim h [
-      | inl here ↦ elim here [ inl e ↦ absurd (apart.0 e) | inr later ↦ inl later ]
-      | inr same ↦ inr (same ∙ sym apart.1)
-    ]
+    | inl here ↦ elim here [ inl e ↦ absurd (apart.0 e) | inr later ↦ inl later ]
+    | inr same ↦ inr (same ∙ sym apart.1)
+  ]
 ])
 
 from_pick : (xs : List ℕ) (f : Formula) (r p : Point) → IsPoint r → Is f true (pick xs r p) → Is (under_ex xs f) true p
@@ -89,7 +89,7 @@ pub whole_is : (vars : List ℕ) (f : Formula) → HasNoQuantifier f → (p : Po
 whole_is vars f none p valid = (
   (λ t. reaches_whole vars f none p (under_ex_reaches vars f p valid t)),
   (λ t. let w = whole_reaches vars f p valid t in
-    reaches_under_ex vars f none w.at p w.valid (λ y has. elim (in_or_not y vars) [ inl h ↦ inl h | inr beyond ↦ inr (w.off y beyond) ]) w.is),
+      reaches_under_ex vars f none w.at p w.valid (λ y has. elim (in_or_not y vars) [ inl h ↦ inl h | inr beyond ↦ inr (w.off y beyond) ]) w.is),
 )
 
 -- ---- one variable more

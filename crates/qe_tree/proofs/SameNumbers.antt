@@ -1,6 +1,6 @@
 -- Without quantifiers truth depends on the numbers of the variables that occur, and on nothing else.
 use Rattle.std.proofs.Common.{ℕ, ◌≡◌, ◌∙◌, sym, ap, ap₂, refl, inl, inr, Bool, true, false, not, [], ◌∷◌}
-use Rattle.qe_tower.specs.Number.{Number, add, mul, whole_number, number_operations, sign_of}
+use Rattle.qe_tower.specs.Number.{add, mul, whole_number, number_operations, sign_of}
 use Rattle.qe_tower.specs.Point.{Point, number_at}
 use Rattle.qe_poly.specs.Monomial.{Monomial}
 use Rattle.qe_poly.specs.Polynomial.{Polynomial}

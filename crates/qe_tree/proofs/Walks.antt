@@ -1,12 +1,12 @@
 -- Facts of the places of a tree, by the three kinds of nodes.
-use Rattle.std.proofs.Common.{ℕ, zero, suc, ◌≡◌, ◌≢◌, ◌∙◌, sym, ap, refl, subst, ◌<◌, ◌≤◌, inl, inr, ◌⊎◌, Bool, true, List, [], ◌∷◌, ◌++◌, map, length, Option, Some, None, arith}
+use Rattle.std.proofs.Common.{ℕ, zero, suc, ◌≡◌, ◌≢◌, ◌∙◌, sym, ap, refl, subst, ◌<◌, ◌≤◌, inl, inr, ◌⊎◌, List, [], ◌∷◌, ◌++◌, map, length, Some, None, arith}
 use Rattle.std.specs.List.{flat_map}
 use Rattle.qe_form.specs.Formula.{Formula}
 use Rattle.qe_form.specs.Measures.{Has}
 use Rattle.qe_tree.specs.Variables.{remaining}
 use Rattle.qe_tree.specs.Expanded.{Expanded, Expansion, successors, failed}
-use Rattle.qe_tree.specs.Tree.{Step, Place, unless_leaf, grown, failure_of, expanded, below, failure, walk, places}
-use Rattle.qe_tree.specs.Sound.{IsIn, Each, forms_of, IsGrown, IsSound}
+use Rattle.qe_tree.specs.Tree.{Step, Place, unless_leaf, grown, failure_of, below, failure, walk}
+use Rattle.qe_tree.specs.Sound.{IsIn, Each, forms_of, IsSound}
 use Rattle.qe_tree.proofs.Occurs.{fewer_left}
 
 -- P of the formula of each place, and of some

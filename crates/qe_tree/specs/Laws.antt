@@ -1,5 +1,5 @@
 -- What holds of the trees of every sound expansion.
-use Rattle.std.specs.Prelude.{ℕ, ◌≡◌, ◌↔◌, true, List, map, Bool, IsTrue}
+use Rattle.std.specs.Prelude.{ℕ, ◌≡◌, ◌↔◌, true, List, map, IsTrue}
 use Rattle.qe_tower.specs.Point.{Point, IsPoint}
 use Rattle.qe_form.specs.Formula.{Formula, Or}
 use Rattle.qe_form.specs.Tree.{trees_of}
