@@ -1,5 +1,5 @@
 -- What holds of the trees of every sound expansion.
-use Rattle.std.specs.Prelude.{ℕ, ◌≡◌, ◌↔◌, true, List, map, Bool, IsTrue}
+use Rattle.std.specs.Prelude.{ℕ, ◌≡◌, ◌↔◌, true, List, map, IsTrue}
 use Rattle.qe_tower.specs.Point.{Point, IsPoint}
 use Rattle.qe_form.specs.Formula.{Formula, Or}
 use Rattle.qe_form.specs.Tree.{trees_of}
@@ -9,7 +9,7 @@ use Rattle.qe_form.specs.Same.{Same}
 use Rattle.qe_tree.specs.Variables.{occurs, remaining, under_ex}
 use Rattle.qe_tree.specs.Expanded.{Expansion, successors}
 use Rattle.qe_tree.specs.Tree.{form, inner}
-use Rattle.qe_tree.specs.Sound.{Each, AreDistinct, IsFine, forms_of}
+use Rattle.qe_tree.specs.Sound.{IsFine, forms_of}
 use Rattle.qe_tree.specs.Block.{Block, prenex, given, eliminated}
 
 -- the test of what occurs is right
@@ -20,21 +20,17 @@ OccursIsHas = (x : ℕ) (f : Formula) → IsTrue (occurs x f) ↔ Has x f
 abbrev pub whole : List ℕ → Formula → Formula
 whole vars f = under_ex (remaining vars f) f
 
--- no variable stands twice in a block
-abbrev pub IsBlock : Block → Type 0
-IsBlock b = AreDistinct b.vars
-
 module _ {F : Type 0} (Good : Formula → Type 0) (expand : Expansion F) where
   -- a node is true for some values of its variables exactly where some successor is so for its own
   abbrev pub GrowthKeepsTruth : Type 0
   GrowthKeepsTruth =
-      (vars : List ℕ) → AreDistinct vars → (f : Formula) → Good f → (x : ℕ) (parts : List (ℕ × Formula)) → expand (remaining vars f) f ≡ successors x parts
+      (vars : List ℕ) (f : Formula) → Good f → (x : ℕ) (parts : List (ℕ × Formula)) → expand (remaining vars f) f ≡ successors x parts
       → (p : Point) → IsPoint p → Is (whole vars f) true p ↔ Is (Or (trees_of (map (whole vars) (forms_of parts)))) true p
 
   -- a block's inner result, where it is a formula, is the same as the root under `ex` of the block's variables
   abbrev pub InnerIsSame : Type 0
-  InnerIsSame = (vars : List ℕ) → AreDistinct vars → (f g : Formula) → Good f → inner expand vars f ≡ form g → IsFine g × Same (under_ex vars f) g
+  InnerIsSame = (vars : List ℕ) (f g : Formula) → Good f → inner expand vars f ≡ form g → IsFine g × Same (under_ex vars f) g
 
   -- what elimination gives is the same as the prenex form
   abbrev pub EliminatedIsSame : Type 0
-  EliminatedIsSame = (bs : List Block) → Each IsBlock bs → (m g : Formula) → IsFine m → eliminated expand bs m ≡ given g → IsFine g × Same (prenex bs m) g
+  EliminatedIsSame = (bs : List Block) (m g : Formula) → IsFine m → eliminated expand bs m ≡ given g → IsFine g × Same (prenex bs m) g

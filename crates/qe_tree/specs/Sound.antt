@@ -22,11 +22,6 @@ abbrev pub Each : {A : Type 0} → (A → Type 0) → List A → Type 0
 Each P [] = Unit {0}
 Each P (x ∷ xs) = P x × Each P xs
 
--- no two are equal
-abbrev pub AreDistinct : List ℕ → Type 0
-AreDistinct [] = Unit {0}
-AreDistinct (x ∷ xs) = (IsIn x xs → ⊥) × AreDistinct xs
-
 -- the formula is plain, over polynomials: what the method works on
 abbrev pub IsFine : Formula → Type 0
 IsFine f = IsPlainWith (λ a. IsPolynomial a.poly) f
