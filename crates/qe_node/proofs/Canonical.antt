@@ -141,7 +141,9 @@ module _ (x : ℕ) where
 
   below_fine : (f : Polynomial) (signs : Signs) → IsPolynomial f → IsFine (spec.below x f signs)
   below_fine f signs h =
-      let (c0, c1, c2) = (coefficient 0 f h, coefficient 1 f h, coefficient 2 f h) in
+      let c0 = coefficient 0 f h in
+      let c1 = coefficient 1 f h in
+      let c2 = coefficient 2 f h in
       fine_if (eqb (degree_in x f) 1) (spec.line_below x f signs) (spec.square_below x f signs)
       (c1, ((c1, (c0, tt)), tt))
       (c2, ((c2, (c1, tt)), ((c2, (c1, (c0, tt))), tt)))

@@ -1,3 +1,4 @@
 pub mod Remaining
 pub mod Grown
 pub mod Canonical
+pub mod Tries
