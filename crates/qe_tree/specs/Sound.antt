@@ -1,10 +1,10 @@
 -- When an expansion is sound.
-use Rattle.std.specs.Prelude.{ℕ, ◌≡◌, ◌≢◌, ◌⊎◌, ◌↔◌, true, List, [], ◌∷◌, map}
+use Rattle.std.specs.Prelude.{ℕ, ◌≤◌, ◌≡◌, ◌≢◌, ◌⊎◌, ◌↔◌, true, List, [], ◌∷◌, map}
 use Rattle.qe_tower.specs.Point.{Point, IsPoint}
 use Rattle.qe_poly.specs.Polynomial.{IsPolynomial}
 use Rattle.qe_form.specs.Formula.{Formula, Ex, Or}
 use Rattle.qe_form.specs.Tree.{trees_of}
-use Rattle.qe_form.specs.Measures.{Has}
+use Rattle.qe_form.specs.Measures.{Has, count}
 use Rattle.qe_form.specs.Truth.{Is}
 use Rattle.qe_form.specs.Plain.{IsPlainWith}
 use Rattle.qe_simp.specs.Simplified.{simplified}
@@ -30,12 +30,13 @@ IsFine f = IsPlainWith (λ a. IsPolynomial a.poly) f
 abbrev pub forms_of : List (ℕ × Formula) → List Formula
 forms_of parts = map (λ s. s.1) parts
 
--- The successors of a formula with x among its variables: some of them is true exactly where the formula is true for some x, and
--- in none occurs x, or a variable that the formula has not.
+-- The successors of a formula with x among its variables: some of them is true exactly where the formula is true for some x, in
+-- none occurs x, or a variable that the formula has not, and none is large.
 pub record IsGrown (Good : Formula → Type 0) (vars : List ℕ) (f : Formula) (x : ℕ) (parts : List (ℕ × Formula)) : Type 0 where
   pub chosen : IsIn x vars
   pub good : Each Good (forms_of parts)
   pub fewer : Each (λ g. (y : ℕ) → Has y g → Has y f × (y ≢ x)) (forms_of parts)
+  pub small : Each (λ g. count g ≤ 65538) (forms_of parts)
   pub truth : (p : Point) → IsPoint p → Is (Ex x f) true p ↔ Is (Or (trees_of (forms_of parts))) true p
 
 -- The good formulas are those that come up: simplified ones. The successors of each node are grown from it.

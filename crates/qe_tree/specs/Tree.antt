@@ -78,7 +78,7 @@ is_among f fs = list_any (λ g. is_eq (formula_cmp f g)) fs
 -- the first place of each formula that is not met before
 abbrev pub first_places : List Formula → List Place → List Place
 first_places met [] = []
-first_places met (p ∷ ps) = cond (is_among p.form met) (first_places met ps) (p ∷ first_places (p.form ∷ met) ps)
+first_places met (p ∷ ps) = cond (is_among p.form met) (first_places met ps) (p ∷ first_places (met ++ p.form ∷ []) ps)
 
 module _ {F : Type 0} (expand : Expansion F) (vars : List ℕ) where
   -- the distinct nodes of the tree, each at its first place
