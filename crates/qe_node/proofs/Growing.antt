@@ -35,7 +35,58 @@ module _ (vars : List ℕ) where
   more_before made n g (Ok parts) = ap Ok (sym (append_assoc made (node_for n g ∷ []) (below vars parts)))
   more_before made n g (Err s) = refl
 
+  -- a node that is pushed with its number
+  pub one_pushed : (list new : List (Next Sight)) (i : ℕ) (n : Sight) (g : Formula) → new ≡ list ++ record { point = i; piece = n } ∷ [] → n.form ≡ g → n.vars ≡ remaining vars g
+      → shown new ≡ shown list ++ node_for i g ∷ []
+  one_pushed list new i n g pushed form left =
+      let same : n ≡ record { vars = remaining vars g; form = g } = (λ j. record { vars = left j; form = form j }) in
+      ap shown pushed ∙ shown-push list (record { point = i; piece = n }) ∙ ap (λ m. shown list ++ (i, m) ∷ []) same
+
   module _ (x : ℕ) (f : Formula) (cs : List Candidate) (i : ℕ) (within : i < length cs) (made : List (ℕ × Sight)) (all : Result (List (ℕ × Sight)) NodeStop)
-      (so_far : after_all made (nodes_below vars (given_by x f i (drop i cs))) ≡ all) where
-    rest : Result (List (ℕ × Formula)) NodeStop
-    rest = given_by x f (i + 1) (drop (i + 1) cs)
+      (so_far : after_all made (nodes_below vars (given_by x f i (drop i cs))) ≡ all) (c : Candidate) (is : c ≡ get_or cs i c) where
+    abbrev others : Result (List (ℕ × Formula)) NodeStop
+    others = given_by x f (i + 1) (drop (i + 1) cs)
+
+    split : drop i cs ≡ c ∷ drop (i + 1) cs
+    split = rw add-one (drop-cons cs i c within ∙ ap (λ d. d ∷ drop (suc i) cs) (sym is))
+
+    step : (t : Tried) → t ≡ tried x f i c → after_all made (nodes_below vars (and_then i t others)) ≡ all
+    step t same =
+        ap (λ u. after_all made (nodes_below vars (and_then i u others))) same
+        ∙ ap (λ n. after_all made (nodes_below vars (and_then i (tried x f i c) (given_by x f n (drop (i + 1) cs))))) (add-one {i})
+        ∙ ap (λ ds. after_all made (nodes_below vars (given_by x f i ds))) (sym split) ∙ so_far
+
+    -- the node fails
+    pub turn_fails : (t : Tried) (s : NodeStop) → t ≡ tried x f i c → t ≡ fails s → all ≡ Err s
+    turn_fails t s same failed = sym (step t same) ∙ ap (λ u. after_all made (nodes_below vars (and_then i u others))) failed
+
+    -- nothing is given
+    pub turn_skips : (t : Tried) → t ≡ tried x f i c → t ≡ skipped → after_all made (nodes_below vars others) ≡ all
+    turn_skips t same none = ap (λ u. after_all made (nodes_below vars (and_then i u others))) (sym none) ∙ step t same
+
+    module _ (t : Tried) (g : Formula) (same : t ≡ tried x f i c) (given : t ≡ gives g) where
+      given_step : (b : Bool) → b ≡ is_true g → after_all made (nodes_below vars (cond b (Ok ((i, g) ∷ [])) (before (i, g) others))) ≡ all
+      given_step b last =
+          ap (λ u. after_all made (nodes_below vars (cond u (Ok ((i, g) ∷ [])) (before (i, g) others)))) last
+          ∙ (ap (λ u. after_all made (nodes_below vars (and_then i u others))) (sym given) ∙ step t same)
+
+      -- a successor is given, and it is not True
+      pub turn_gives : (now : List (ℕ × Sight)) (b : Bool) → b ≡ is_true g → b ≡ false → now ≡ made ++ node_for i g ∷ [] → after_all now (nodes_below vars others) ≡ all
+      turn_gives now b last other pushed =
+          ap (λ m. after_all m (nodes_below vars others)) pushed ∙ (sym (more_before made i g others)
+          ∙ (ap (λ u. after_all made (nodes_below vars (cond u (Ok ((i, g) ∷ [])) (before (i, g) others)))) (sym other) ∙ given_step b last))
+
+      -- a True successor ends the list
+      pub turn_ends : (now : List (ℕ × Sight)) (b : Bool) → b ≡ is_true g → b ≡ true → now ≡ made ++ node_for i g ∷ [] → all ≡ Ok now
+      turn_ends now b last true_one pushed =
+          sym (given_step b last) ∙ (ap (λ u. after_all made (nodes_below vars (cond u (Ok ((i, g) ∷ [])) (before (i, g) others)))) true_one ∙ ap Ok (sym pushed))
+
+  -- the end of the loop
+  pub no_turns : (x : ℕ) (f : Formula) (cs : List Candidate) (i : ℕ) (made : List (ℕ × Sight)) (all : Result (List (ℕ × Sight)) NodeStop) → length cs ≤ i
+      → after_all made (nodes_below vars (given_by x f i (drop i cs))) ≡ all → all ≡ Ok made
+  no_turns x f cs i made all past so_far =
+      sym so_far ∙ (ap (λ ds. after_all made (nodes_below vars (given_by x f i ds))) (drop_all i cs past) ∙ ap Ok (append-nil made))
+
+-- and its start
+pub first_turn : (r : Result (List (ℕ × Sight)) NodeStop) → after_all [] r ≡ r
+first_turn = after_none
