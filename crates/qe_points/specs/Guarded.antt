@@ -1,10 +1,12 @@
 -- What `guarded` answers, and what it tells of the guard and the point.
-use Rattle.std.specs.Prelude.{ℕ, ◌≡◌, ◌≢◌, ◌≤◌, ◌<◌, ◌⊎◌, true, Option, Some, None, Result, Ok, Err}
+use Rattle.std.specs.Prelude.{ℕ, ◌≡◌, ◌≢◌, ◌≤◌, ◌<◌, ◌⊎◌, Bool, true, false, Option, Some, None, Result, Ok, Err}
 use Rattle.qe_tower.specs.Point as assignment
 use Rattle.qe_tower.proofs.ValidNumbers.{ValidNumber}
 use Rattle.qe_line.specs.Place.{Place}
 use Rattle.qe_poly.specs.Polynomial.{Polynomial}
 use Rattle.qe_poly.specs.Coefficients.{degree_in}
+use Rattle.qe_poly.specs.declared.limit.PolyStop.{PolyStop}
+use Rattle.qe_poly.specs.declared.limit.PolyStop.TheVariants as met
 use Rattle.qe_form.specs.Formula.{Formula, False}
 use Rattle.qe_form.specs.Plain.{IsPlainAndProper}
 use Rattle.qe_form.specs.Same.{OccursInSome, IsFree}
@@ -23,6 +25,7 @@ use Rattle.qe_points.specs.declared.candidate.Which.TheVariants.{Linear, Upper, 
 use Rattle.qe_points.specs.declared.candidate.Candidate.{Candidate}
 use Rattle.qe_points.specs.declared.candidate.Candidate.TheVariants.{Root, MinusInf}
 use Rattle.qe_points.specs.declared.guard.GuardedPoint.{GuardedPoint}
+use Rattle.qe_points.specs.declared.guard.RootWithGuard.{RootWithGuard}
 use Rattle.qe_points.specs.Guard.{guard, point_of, limit}
 
 -- ---- candidates with a guard
@@ -49,10 +52,23 @@ pub record IsOf (x : ℕ) (f : Formula) (c : Candidate) : Type 0 where
 
 -- ---- the answer
 
+-- a guard with a root
+abbrev pub IsMade : Formula → RootPoint → RootWithGuard → Type 0
+IsMade guard k g = (tree g.guard ≡ guard) × (g.root ≡ k)
+
+abbrev pub is_false : Formula → Bool
+is_false False = true
+is_false f = false
+
 -- none where the simplified guard is False, and else that guard with the point
-abbrev pub IsGuarded : ℕ → Candidate → Option GuardedPoint → Type 0
-IsGuarded x c None = simplified (guard x c) ≡ False
-IsGuarded x c (Some g) = (simplified (guard x c) ≢ False) × ((tree g.guard ≡ simplified (guard x c)) × (g.point ≡ point_of x c))
+abbrev pub IsGuarded : Formula → Point → Option GuardedPoint → Type 0
+IsGuarded guard p None = is_false (simplified guard) ≡ true
+IsGuarded guard p (Some g) = (is_false (simplified guard) ≡ false) × ((tree g.guard ≡ simplified guard) × (g.point ≡ p))
+
+-- the refusal for an atom: a limit in its guard
+abbrev pub stop_at : ℕ → PolyStop → SubstStop
+stop_at atom (met.Limit limit) = stop.At atom stage.Guard limit
+stop_at atom met.OutOfMemory = stop.OutOfMemory
 
 -- it is the candidate's atom
 abbrev pub IsItsAtom : Candidate → ℕ → Type 0
@@ -66,7 +82,7 @@ IsStop x c stop.TooLarge = ⊥
 IsStop x c stop.OutOfMemory = Unit {0}
 
 abbrev pub IsAnswer : ℕ → Candidate → Result (Option GuardedPoint) SubstStop → Type 0
-IsAnswer x c (Ok found) = (limit x c ≡ None) × IsGuarded x c found
+IsAnswer x c (Ok found) = (limit x c ≡ None) × IsGuarded (guard x c) (point_of x c) found
 IsAnswer x c (Err met) = IsStop x c met
 
 -- ---- what the guard tells
