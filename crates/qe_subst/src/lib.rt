@@ -2,6 +2,7 @@
 //! Knows nothing of candidates, guards and nodes, nor of how a formula is simplified.
 #![tactic(auto)]
 
+mod atom;
 mod below;
 mod connective;
 mod formula;
