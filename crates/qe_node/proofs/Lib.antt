@@ -5,3 +5,4 @@ pub mod Tries
 pub mod Growing
 pub mod Fine
 pub mod Sound
+pub mod Pieces

@@ -1,6 +1,6 @@
 -- The variables of a list that pass a test, found one after another.
 use Rattle.std.proofs.Common.{◌≢◌, ◌^◌, filter, subst, ℕ, zero, suc, ◌+◌, ◌<◌, ◌≤◌, ◌≡◌, ◌↔◌, ◌∙◌, sym, ap, refl, Bool, true, false, cond, List, [], ◌∷◌, ◌++◌, map, length, get_or, drop, drop-cons, append_assoc, append-nil, arith}
-use Rattle.std.specs.Prelude.{IsTrue, AllPairs, eqb, ◌&&◌}
+use Rattle.std.specs.Prelude.{IsTrue, AllPairs, eqb, not, ◌&&◌}
 use lib.Pointwise.{pointwise}
 use Rattle.std.proofs.lemmas.List.Kept.{AllPairs-filter}
 use Rattle.std.proofs.lemmas.List.{drop_all}
@@ -12,6 +12,7 @@ use Rattle.qe_form.specs.Plain.{IsPlainAndProper}
 use Rattle.qe_tree.specs.Variables.{occurs, remaining}
 use Rattle.qe_tree.proofs.Occurs.{occurs_is_has}
 use Rattle.qe_node.specs.Node.{IsNode}
+use Rattle.qe_node.specs.Answer.{others}
 
 -- the numbers of variables
 abbrev pub numbers : List Var → List ℕ
@@ -83,3 +84,7 @@ pub node_of : (vars : List ℕ) (f : Formula) (left : List ℕ) (g : Formula) �
 node_of vars f left g is same distinct proper small =
     subst (λ xs. IsNode (record { vars = xs; form = g })) (sym is) (subst (λ h. IsNode (record { vars = remaining vars f; form = h })) (sym same)
     (record { distinct = AllPairs-filter (λ x y. x ≢ y) (λ x. occurs x f) vars distinct; occurring = filter-again (λ x. occurs x f) vars; proper = proper; small = small }))
+
+-- the variables other than one are distinct too
+pub others_distinct : (x : ℕ) (vars left : List ℕ) → left ≡ others x vars → AllPairs (λ x y. x ≢ y) vars → AllPairs (λ x y. x ≢ y) left
+others_distinct x vars left is distinct = subst (λ xs. AllPairs (λ (y : ℕ) z. y ≢ z) xs) (sym is) (AllPairs-filter (λ y z. y ≢ z) (λ y. not (eqb y x)) vars distinct)

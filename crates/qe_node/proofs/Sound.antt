@@ -21,7 +21,6 @@ use Rattle.qe_simp.proofs.Shapes.{plain_weaker, plain_atoms, plain_no_quantifier
 use Rattle.qe_root.specs.declared.point.Point as code
 use Rattle.qe_root.specs.declared.point.Point.TheVariants as point
 use Rattle.qe_root.specs.Atoms.{atoms}
-use Rattle.qe_root.specs.Holds.{StandsFor}
 use Rattle.qe_points.specs.declared.candidate.Which.TheVariants as which
 use Rattle.qe_points.specs.declared.candidate.Candidate.{Candidate}
 use Rattle.qe_points.specs.declared.candidate.Candidate.TheVariants.{Root, MinusInf}
@@ -34,8 +33,9 @@ use Rattle.qe_points.proofs.Choosing.{choice_is}
 use Rattle.qe_points.proofs.Members as members
 use Rattle.qe_points.proofs.Enough.{is_of, made_complete}
 use Rattle.qe_points.proofs.Sound.{made_sound}
-use Rattle.qe_subst.specs.Substituted.{substituted}
-use Rattle.qe_subst.specs.Left.{IsLeft, OccursAt}
+use Rattle.qe_subst.specs.Left.{OccursAt}
+use Rattle.qe_subst.proofs.Truth.{substituted_means}
+use Rattle.qe_subst.proofs.LeftOver.{made_left}
 use Rattle.qe_tree.specs.Variables.{remaining}
 use Rattle.qe_tree.specs.Expanded.{Expanded, successors, failed}
 use Rattle.qe_tree.specs.Sound as tree
@@ -43,7 +43,7 @@ use Rattle.qe_tree.specs.Sound.{Each, IsIn, IsFine, forms_of, IsGrown}
 use Rattle.qe_node.specs.declared.stop.NodeStop.{NodeStop}
 use Rattle.qe_node.specs.PieceLaws.{chosen_in}
 use Rattle.qe_node.specs.Successors.{given_by, at_variable, at_choice, variables, expansion}
-use Rattle.qe_node.proofs.Canonical.{IsTestPoint, IsOverPolynomial, substituted_fine, point_fine, guard_of_fine}
+use Rattle.qe_node.proofs.Canonical.{IsOverPolynomial, substituted_fine, point_fine, guard_of_fine}
 use Rattle.qe_node.proofs.Fine.{atoms_fine, candidates_fine}
 use Rattle.qe_node.proofs.Grown.{IsUsable, at_candidate, successor, told, each_given}
 
@@ -106,95 +106,93 @@ complete x f fine low =
     made_complete (λ a. a) x f (atoms f) (candidates x f) (map_same (atoms f))
     (members.all_in (λ a. IsPolynomial a.poly) (atoms f) (in_each (λ a. IsPolynomial a.poly) (atoms f) (atoms_fine f fine))) refl (fine_plain f fine) low
 
--- What substitution is known to do: the formula at the point stands for the formula, and its variables are those of the formula and of the point.
-module _ (stands : (x : ℕ) (point : code.Point) (own : Option Polynomial) (f : Formula) → degree x f ≤ 2 → IsPlainAndProper f → IsFine f → StandsFor x point own f (substituted x point own f))
-    (left : (x : ℕ) (point : code.Point) (own : Option Polynomial) (f : Formula) → degree x f ≤ 2 → IsPlainAndProper f → IsFine f → IsTestPoint point → IsLeft x point f (substituted x point own f)) where
-  module _ (x : ℕ) (f : Formula) (good : IsSimplified f) (low : degree x f ≤ 2) where
-    fine : IsFine f
-    fine = simplified_fine f good
+module _ (x : ℕ) (f : Formula) (good : IsSimplified f) (low : degree x f ≤ 2) where
+  fine : IsFine f
+  fine = simplified_fine f good
 
-    proper : IsPlainAndProper f
-    proper = simplified_is_proper f good
+  proper : IsPlainAndProper f
+  proper = simplified_is_proper f good
 
-    module _ (c : Candidate) (of : IsOf x f c) (over : IsOverPolynomial c) where
-      guard_fine : IsFine (simplified (guard x c))
-      guard_fine = simplified_fine (simplified (guard x c)) (fine_simplified (guard x c) (guard_of_fine x c over))
+  module _ (c : Candidate) (of : IsOf x f c) (over : IsOverPolynomial c) where
+    guard_fine : IsFine (simplified (guard x c))
+    guard_fine = simplified_fine (simplified (guard x c)) (fine_simplified (guard x c) (guard_of_fine x c over))
 
-      at_fine : IsFine (at_candidate x f c)
-      at_fine = substituted_fine x (point_of x c) (own c) (point_fine x c over) f fine
+    at_fine : IsFine (at_candidate x f c)
+    at_fine = substituted_fine x (point_of x c) (own c) (point_fine x c over) f fine
 
-      joined_fine : IsFine (And (more (simplified (guard x c)) (more (at_candidate x f c) no_more)))
-      joined_fine = (guard_fine, (at_fine, tt))
+    joined_fine : IsFine (And (more (simplified (guard x c)) (more (at_candidate x f c) no_more)))
+    joined_fine = (guard_fine, (at_fine, tt))
 
-      usable : IsUsable x f c
-      usable = record {
-        guarded = sound_candidate x c of.root over;
-        simple = (fine_keeps (guard x c) (guard_of_fine x c over)).agree;
-        stands = stands x (point_of x c) (own c) f low proper fine;
-        kept = fine_keeps (And (more (simplified (guard x c)) (more (at_candidate x f c) no_more))) joined_fine;
-      }
-
-      good_successor : IsSimplified (successor x f c)
-      good_successor = fine_simplified (And (more (simplified (guard x c)) (more (at_candidate x f c) no_more))) joined_fine
-
-      has_free : (y : ℕ) (g : Formula) → HasNoQuantifier g → Has y g → IsFree y g
-      has_free y g none h = (occurring_is_free y g none).0 h
-
-      own_has : (y : ℕ) → (y ≢ x) × OccursInOwn y c → Has y f × (y ≢ x)
-      own_has y h = ((occurring_is_free y f (simplified_no_quantifier f good)).1 (of.free y h.1), h.0)
-
-      fewer : (y : ℕ) → Has y (successor x f c) → Has y f × (y ≢ x)
-      fewer y h = elim (usable.kept.free y (has_free y (successor x f c) (simplified_no_quantifier (successor x f c) good_successor) h)) [
-        | inl in_guard ↦ own_has y (usable.guarded.guard-free y in_guard)
-        | inr rest ↦ elim rest [
-          | inl in_form ↦ elim (left x (point_of x c) (own c) f low proper fine (point_fine x c over) y in_form) [
-            | inl stays ↦ ((occurring_is_free y f (simplified_no_quantifier f good)).1 stays.1, stays.0)
-            | inr at ↦ own_has y (usable.guarded.point-free y (in_point y (point_of x c) at))
-          ]
-          | inr none ↦ absurd none
-        ]
-      ]
-
-    abbrev IsReady : Candidate → Type 0
-    IsReady c = IsUsable x f c × (IsSimplified (successor x f c) × ((y : ℕ) → Has y (successor x f c) → Has y f × (y ≢ x)))
-
-    ready : Each IsReady (candidates x f)
-    ready = both_each (IsOf x f) IsOverPolynomial IsReady (λ c of over. (usable c of over, (good_successor c of over, fewer c of over))) (candidates x f)
-        (each_of (IsOf x f) (candidates x f) (is_of x f)) (candidates_fine x f fine)
-
-    each_ready : {P : Candidate → Type 0} → ((c : Candidate) → IsReady c → P c) → Each P (candidates x f)
-    each_ready {P} take = both_each IsReady IsReady P (λ c h k. take c h) (candidates x f) ready ready
-
-    grown : (vars : List ℕ) (parts : List (ℕ × Formula)) → IsIn x vars → given_by x f 0 (candidates x f) ≡ Ok parts → IsGrown IsSimplified vars f x parts
-    grown vars parts chosen is = record {
-      chosen = chosen;
-      good = each_given IsSimplified x f 0 (candidates x f) (each_ready (λ c h. h.1.0)) parts is;
-      fewer = each_given (λ g. (y : ℕ) → Has y g → Has y f × (y ≢ x)) x f 0 (candidates x f) (each_ready (λ c h. h.1.1)) parts is;
-      truth = λ p valid.
-          let all = (complete x f fine low).true_side p valid in
-          let some = told x f p valid 0 (candidates x f) (each_ready (λ c h. h.0)) parts is in
-          ((λ t. some.1 (all.0 t)), (λ t. all.1 (some.0 t)));
+    usable : IsUsable x f c
+    usable = record {
+      guarded = sound_candidate x c of.root over;
+      simple = (fine_keeps (guard x c) (guard_of_fine x c over)).agree;
+      stands = substituted_means x (point_of x c) (own c) f low proper fine;
+      kept = fine_keeps (And (more (simplified (guard x c)) (more (at_candidate x f c) no_more))) joined_fine;
     }
 
-  at_choice_grown : (vars : List ℕ) (f : Formula) → IsSimplified f → (o : Option Var) → choice f (variables vars) ≡ o → (x : ℕ) (parts : List (ℕ × Formula))
-      → at_choice f o ≡ successors x parts → IsGrown IsSimplified vars f x parts
-  at_choice_grown vars f good None chosen x parts is = absurd (cc)
-  at_choice_grown vars f good (Some v) chosen x parts is = by_result (given_by v.0 f 0 (candidates v.0 f)) refl is
-    where
-      low : degree v.0 f ≤ 2
-      low = let h : IfSome (Some v) (λ u. IsOneOf u (variables vars) × (degree u.0 f ≤ 2)) = subst (λ o. IfSome o (λ u. IsOneOf u (variables vars) × (degree u.0 f ≤ 2))) chosen (choice_is f (variables vars)) in h.1
+    good_successor : IsSimplified (successor x f c)
+    good_successor = fine_simplified (And (more (simplified (guard x c)) (more (at_candidate x f c) no_more))) joined_fine
 
-      by_result : (r : Result (List (ℕ × Formula)) NodeStop) → given_by v.0 f 0 (candidates v.0 f) ≡ r → at_variable v.0 r ≡ successors x parts → IsGrown IsSimplified vars f x parts
-      by_result (Ok ps) given same =
-          let same_x : v.0 ≡ x = cc in
-          let same_parts : ps ≡ parts = cc in
-          subst (λ z. IsGrown IsSimplified vars f z parts) same_x (subst (λ qs. IsGrown IsSimplified vars f v.0 qs) same_parts (grown v.0 f good low vars ps (chosen_in f vars v chosen) given))
-      by_result (Err s) given same = absurd (cc)
+    has_free : (y : ℕ) (g : Formula) → HasNoQuantifier g → Has y g → IsFree y g
+    has_free y g none h = (occurring_is_free y g none).0 h
 
-  pub expansion_sound : tree.IsSound IsSimplified expansion
-  expansion_sound = record {
-    fine = simplified_fine;
-    good = fine_simplified;
-    keeps = fine_keeps;
-    grows = λ vars f good x parts is. at_choice_grown (remaining vars f) f good (choice f (variables (remaining vars f))) refl x parts is;
+    own_has : (y : ℕ) → (y ≢ x) × OccursInOwn y c → Has y f × (y ≢ x)
+    own_has y h = ((occurring_is_free y f (simplified_no_quantifier f good)).1 (of.free y h.1), h.0)
+
+    fewer : (y : ℕ) → Has y (successor x f c) → Has y f × (y ≢ x)
+    fewer y h = elim (usable.kept.free y (has_free y (successor x f c) (simplified_no_quantifier (successor x f c) good_successor) h)) [
+      | inl in_guard ↦ own_has y (usable.guarded.guard-free y in_guard)
+      | inr rest ↦ elim rest [
+        | inl in_form ↦ elim (made_left x (point_of x c) (own c) f (at_candidate x f c) fine refl y in_form) [
+          | inl stays ↦ ((occurring_is_free y f (simplified_no_quantifier f good)).1 stays.1, stays.0)
+          | inr at ↦ own_has y (usable.guarded.point-free y (in_point y (point_of x c) at))
+        ]
+        | inr none ↦ absurd none
+      ]
+    ]
+
+  abbrev IsReady : Candidate → Type 0
+  IsReady c = IsUsable x f c × (IsSimplified (successor x f c) × ((y : ℕ) → Has y (successor x f c) → Has y f × (y ≢ x)))
+
+  ready : Each IsReady (candidates x f)
+  ready = both_each (IsOf x f) IsOverPolynomial IsReady (λ c of over. (usable c of over, (good_successor c of over, fewer c of over))) (candidates x f)
+      (each_of (IsOf x f) (candidates x f) (is_of x f)) (candidates_fine x f fine)
+
+  each_ready : {P : Candidate → Type 0} → ((c : Candidate) → IsReady c → P c) → Each P (candidates x f)
+  each_ready {P} take = both_each IsReady IsReady P (λ c h k. take c h) (candidates x f) ready ready
+
+  grown : (vars : List ℕ) (parts : List (ℕ × Formula)) → IsIn x vars → given_by x f 0 (candidates x f) ≡ Ok parts → IsGrown IsSimplified vars f x parts
+  grown vars parts chosen is = record {
+    chosen = chosen;
+    good = each_given IsSimplified x f 0 (candidates x f) (each_ready (λ c h. h.1.0)) parts is;
+    fewer = each_given (λ g. (y : ℕ) → Has y g → Has y f × (y ≢ x)) x f 0 (candidates x f) (each_ready (λ c h. h.1.1)) parts is;
+    truth = λ p valid.
+        let all = (complete x f fine low).true_side p valid in
+        let some = told x f p valid 0 (candidates x f) (each_ready (λ c h. h.0)) parts is in
+        ((λ t. some.1 (all.0 t)), (λ t. all.1 (some.0 t)));
   }
+
+at_choice_grown : (vars : List ℕ) (f : Formula) → IsSimplified f → (o : Option Var) → choice f (variables vars) ≡ o → (x : ℕ) (parts : List (ℕ × Formula))
+    → at_choice f o ≡ successors x parts → IsGrown IsSimplified vars f x parts
+at_choice_grown vars f good None chosen x parts is = absurd (cc)
+at_choice_grown vars f good (Some v) chosen x parts is = by_result (given_by v.0 f 0 (candidates v.0 f)) refl is
+  where
+    low : degree v.0 f ≤ 2
+    low = let h : IfSome (Some v) (λ u. IsOneOf u (variables vars) × (degree u.0 f ≤ 2)) = subst (λ o. IfSome o (λ u. IsOneOf u (variables vars) × (degree u.0 f ≤ 2))) chosen (choice_is f (variables vars)) in h.1
+
+    by_result : (r : Result (List (ℕ × Formula)) NodeStop) → given_by v.0 f 0 (candidates v.0 f) ≡ r → at_variable v.0 r ≡ successors x parts → IsGrown IsSimplified vars f x parts
+    by_result (Ok ps) given same =
+        let same_x : v.0 ≡ x = cc in
+        let same_parts : ps ≡ parts = cc in
+        subst (λ z. IsGrown IsSimplified vars f z parts) same_x (subst (λ qs. IsGrown IsSimplified vars f v.0 qs) same_parts (grown v.0 f good low vars ps (chosen_in f vars v chosen) given))
+    by_result (Err s) given same = absurd (cc)
+
+-- the expansion of nodes is sound: of a simplified formula come simplified ones
+pub expansion_sound : tree.IsSound IsSimplified expansion
+expansion_sound = record {
+  fine = simplified_fine;
+  good = fine_simplified;
+  keeps = fine_keeps;
+  grows = λ vars f good x parts is. at_choice_grown (remaining vars f) f good (choice f (variables (remaining vars f))) refl x parts is;
+}

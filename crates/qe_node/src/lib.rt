@@ -3,6 +3,7 @@
 #![tactic(auto)]
 
 mod growth;
+pub mod laws;
 mod node;
 mod piece;
 mod start;
