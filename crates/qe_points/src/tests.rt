@@ -237,19 +237,57 @@ fn guarded_text(alloc: Global, found: Option<GuardedPoint>) -> Result<String, Ou
     Ok(out)
 }
 
-/// The candidate at a root of the polynomial, with the atom number 7.
-fn root_of(
+/// The guard and the point of the candidate at a root of the polynomial, with the atom number 7.
+fn guarded_root(
     alloc: Global,
-    numbers: Numbers,
+    poly: Poly,
     which: Which,
     plus: bool,
-) -> Result<Candidate, PolyStop> {
-    Ok(Candidate::Root {
-        poly: quadratic(alloc, numbers)?,
-        atom: 7,
-        which,
-        plus,
-    })
+) -> Result<Option<GuardedPoint>, SubstStop> {
+    let atom = 7;
+    let degree = poly.degree_in(X);
+    match which {
+        Which::Linear if 0 < degree && degree <= 2 => {
+            let which = Which::Linear;
+            guarded(
+                alloc,
+                &Candidate::Root {
+                    poly,
+                    atom,
+                    which,
+                    plus,
+                },
+                X,
+            )
+        }
+        Which::Upper if degree == 2 => {
+            let which = Which::Upper;
+            guarded(
+                alloc,
+                &Candidate::Root {
+                    poly,
+                    atom,
+                    which,
+                    plus,
+                },
+                X,
+            )
+        }
+        Which::Lower if degree == 2 => {
+            let which = Which::Lower;
+            guarded(
+                alloc,
+                &Candidate::Root {
+                    poly,
+                    atom,
+                    which,
+                    plus,
+                },
+                X,
+            )
+        }
+        _ => Err(SubstStop::TooLarge),
+    }
 }
 
 const ZERO: [i128; 4] = [0, 0, 0, 0];
@@ -372,8 +410,7 @@ fn gives_guards_and_points(rt: HostRuntime) -> Result<(), Fail> {
         ([ONE, ZERO, ONE], Which::Linear, false, "none"),
         ([ONE, ZERO, ONE], Which::Lower, false, "none"),
     ] {
-        let candidate = root_of(alloc, numbers, which, plus)?;
-        let found = guarded(alloc, &candidate, X)?;
+        let found = guarded_root(alloc, quadratic(alloc, numbers)?, which, plus)?;
         assert_eq!(rt; guarded_text(alloc, found)?.as_str(), want);
     }
     Ok(())
@@ -400,18 +437,13 @@ fn tells_the_first_limit_of_a_guard(rt: HostRuntime) -> Result<(), Fail> {
         ([MOST, 1, 0], Op::Mul, MOST, 2),
     ] {
         let [square, slope, free] = numbers;
-        let candidate = root_of(
-            alloc,
-            [number(square), number(slope), number(free)],
-            Which::Upper,
-            false,
-        )?;
+        let poly = quadratic(alloc, [number(square), number(slope), number(free)])?;
         let limit = PolyLimit::Coefficient(Wide {
             op,
             left: coef(left),
             right: coef(right),
         });
-        let stop = guarded(alloc, &candidate, X).err();
+        let stop = guarded_root(alloc, poly, Which::Upper, false).err();
         assert_eq!(rt;
             stop,
             Some(SubstStop::At {
