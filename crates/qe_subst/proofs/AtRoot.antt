@@ -1,12 +1,12 @@
 -- What is substituted at a root reads the sign of the polynomial there.
-use Rattle.std.proofs.Common.{ℕ, ◌≡◌, ◌∙◌, ◌≤◌, refl, sym, ap, subst, true, false, cond, Option, None, Some, ◌∷◌}
+use Rattle.std.proofs.Common.{ℕ, ◌≡◌, ◌≤◌, refl, sym, ap, subst, true, false, cond, Option, None, Some, ◌∷◌}
 use Rattle.qe_tower.specs.Number.{sign_of}
 use Rattle.qe_tower.specs.Point.{Point, IsPoint}
 use Rattle.qe_tower.proofs.ValidNumbers.{ValidNumber}
 use Rattle.qe_line.specs.Place as line
 use Rattle.qe_poly.specs.Polynomial.{Polynomial, IsPolynomial}
 use Rattle.qe_poly.specs.Coefficients.{degree_in}
-use Rattle.qe_poly.specs.Equal.{poly_eq, poly_tells}
+use Rattle.qe_poly.specs.Equal.{poly_tells}
 use Rattle.qe_form.specs.declared.signs.Signs.{Signs}
 use Rattle.qe_form.specs.Signs.{IsProper}
 use Rattle.qe_form.specs.Value.{value}

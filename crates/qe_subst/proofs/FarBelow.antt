@@ -1,5 +1,5 @@
 -- What is substituted below all numbers, and where a polynomial is zero only if it is zero everywhere, reads the sign there.
-use Rattle.std.proofs.Common.{ℕ, zero, suc, ◌≡◌, ◌∙◌, ◌≤◌, ◌<◌, refl, sym, ap, subst, Bool, true, false, cond, eqb, ◌&&◌, ◌||◌, arith}
+use Rattle.std.proofs.Common.{ℕ, zero, suc, ◌≡◌, ◌∙◌, ◌≤◌, ◌<◌, refl, sym, ap, Bool, true, false, cond, eqb, ◌&&◌, ◌||◌, arith}
 use Rattle.std.proofs.lemmas.Bool.{eqb-true}
 use Rattle.qe_ring.specs.Sign.{Sign, Zero, is, opposite}
 use Rattle.qe_tower.specs.Point.{Point, IsPoint}
@@ -10,12 +10,12 @@ use Rattle.qe_poly.specs.Polynomial.{Polynomial}
 use Rattle.qe_poly.specs.Coefficients.{degree_in, coefficient_in}
 use Rattle.qe_form.specs.declared.signs.Signs.{Signs}
 use Rattle.qe_form.specs.Signs.{IsProper, mirror}
-use Rattle.qe_form.specs.Formula.{Formula, And, Or, no_more, more}
+use Rattle.qe_form.specs.Formula.{And, Or, no_more, more}
 use Rattle.qe_form.specs.Truth.{has_sign}
 use Rattle.qe_root.specs.SignForm.{equal, not_equal}
 use Rattle.qe_subst.specs.Substituted.{strict, is_even, sign_is, both, each_coefficient, everywhere, line_below, constant_below, square_below, at_minus_infinity}
 use Rattle.qe_subst.proofs.SignTests.{line_test, square_test, each_zero, some_not_zero, zero_below}
-use Rattle.qe_subst.proofs.TestFormulas.{Reads, rereads, reads_sign, and_none, and_more, or_none, or_more, reads_both, reads_either}
+use Rattle.qe_subst.proofs.TestFormulas.{Reads, rereads, reads_sign, and_more, or_more, reads_both, reads_either}
 use Rattle.qe_subst.proofs.OnLine.{coefficient, sign_at_place, no_coefficient}
 
 -- of the sets that are neither empty nor full

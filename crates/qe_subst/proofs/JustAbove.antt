@@ -1,5 +1,5 @@
 -- What is substituted just above a root reads the sign that the polynomial has there.
-use Rattle.std.proofs.Common.{ℕ, zero, suc, ◌≡◌, ◌∙◌, ◌≤◌, ◌<◌, ◌-◌, refl, sym, ap, ap₂, subst, true, false, ◌&&◌, ◌||◌, pos, Option, [], ◌∷◌, arith}
+use Rattle.std.proofs.Common.{ℕ, zero, suc, ◌≡◌, ◌∙◌, ◌≤◌, ◌<◌, refl, sym, ap, ap₂, subst, true, false, ◌&&◌, ◌||◌, pos, Option, [], ◌∷◌, arith}
 use Rattle.qe_ring.specs.Expression.{var, nought, unit, constant, of_int, ◌⊕◌, ◌⊗◌}
 use Rattle.qe_ring.specs.Ring.{IsRing}
 use Rattle.qe_ring.specs.Sign.{Sign, Zero}
@@ -8,7 +8,7 @@ use Rattle.qe_tower.specs.Number.{sign_of, whole_number, Equal}
 use Rattle.qe_tower.specs.Point.{Point, IsPoint}
 use Rattle.qe_tower.proofs.ValidNumbers.{ValidNumber, ValidEqual, valid_operations, valid_sign, valid_ordered}
 use Rattle.qe_line.specs.Place as line
-use Rattle.qe_line.specs.Quadratic.{first_sign, quadratic, slope, sign_at}
+use Rattle.qe_line.specs.Quadratic.{first_sign, slope, sign_at}
 use Rattle.qe_line.specs.Numbers.{numbers}
 use Rattle.qe_line.proofs.Equal.{quadratic_same}
 use Rattle.qe_line.proofs.Field.{same_by, equals_zero, sign_of_zero}
@@ -27,13 +27,12 @@ use Rattle.qe_root.specs.declared.point.RootPoint.{RootPoint}
 use Rattle.qe_root.specs.Value.{IsValue}
 use Rattle.qe_root.specs.SignForm.{equal}
 use Rattle.qe_root.specs.Holds.{OwnIsZero}
-use Rattle.qe_subst.specs.Substituted.{strict, sign_is, at_root, near, both}
-use Rattle.qe_subst.proofs.Degrees.{coefficient_past}
+use Rattle.qe_subst.specs.Substituted.{strict, at_root, near, both}
 use Rattle.qe_subst.proofs.Slope.{degree_of_slope, coefficient_of_slope}
 use Rattle.qe_subst.proofs.ProperSigns.{equal_proper}
 use Rattle.qe_subst.proofs.SignTests.{near_test}
 use Rattle.qe_subst.proofs.TestFormulas.{Reads, rereads, reads_sign, reads_both, reads_either}
-use Rattle.qe_subst.proofs.OnLine.{at_number, coefficient, sign_on, sign_at_place, sign_with, no_coefficient, sign_stays}
+use Rattle.qe_subst.proofs.OnLine.{at_number, coefficient, sign_at_place, sign_with, no_coefficient, sign_stays}
 use Rattle.qe_subst.proofs.AtRoot.{at_root_reads}
 
 abbrev R : IsRing valid_operations ValidEqual

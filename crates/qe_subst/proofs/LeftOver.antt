@@ -1,9 +1,8 @@
 -- Which variables are left in the substituted formula.
-use Rattle.std.proofs.Common.{ℕ, zero, suc, ◌≡◌, ◌≢◌, ◌∙◌, ◌⊎◌, ◌<◌, ◌≤◌, ◌-◌, inl, inr, refl, sym, ap, subst, Bool, true, false, cond, eqb, ℤ, pos, ◌*ℤ◌, Option, [], ◌∷◌, ◌++◌, map, arith}
+use Rattle.std.proofs.Common.{ℕ, zero, suc, ◌≡◌, ◌≢◌, ◌⊎◌, ◌<◌, ◌-◌, inl, inr, refl, sym, subst, Bool, true, false, cond, eqb, ℤ, pos, ◌*ℤ◌, Option, [], ◌∷◌, ◌++◌, map, arith}
 use Rattle.std.proofs.lemmas.Bool.{eqb-true}
-use Rattle.std.proofs.lemmas.Bool.Decides.{nat_tests}
 use Rattle.qe_poly.specs.Monomial.{Monomial}
-use Rattle.qe_poly.specs.Polynomial.{Polynomial, IsPolynomial, negative, product, difference, sum}
+use Rattle.qe_poly.specs.Polynomial.{Polynomial, IsPolynomial, negative, product, sum}
 use Rattle.qe_poly.specs.Coefficients.{exponent_of, degree_in, coefficient_in, lowered, derivative}
 use Rattle.qe_poly.specs.Value.{scaled}
 use Rattle.qe_poly.proofs.Derivatives.{IsPolynomial-derivative}
@@ -20,7 +19,7 @@ use Rattle.qe_root.specs.Shape.{formula}
 use Rattle.qe_root.specs.SignForm.{equal, zero_shape, side_shape, sign_shape, sign_formula, norm}
 use Rattle.qe_subst.specs.Canonical.{IsCanonical, AreCanonical}
 use Rattle.qe_subst.specs.Left.{OccursInRoot, OccursAt, IsLeft}
-use Rattle.qe_subst.specs.Substituted.{strict, is_even, is_own, constant, both, either, sign_is, at_root, near, each_coefficient, everywhere, line_below, constant_below, square_below, at_minus_infinity, above_root, at_point, for_atom, substituted, substituted_each}
+use Rattle.qe_subst.specs.Substituted.{strict, is_even, is_own, constant, sign_is, at_root, near, each_coefficient, everywhere, line_below, square_below, at_minus_infinity, at_point, for_atom, substituted, substituted_each}
 use Rattle.qe_subst.proofs.Degrees.{coefficient_whole, occurs_coefficient, occurs_nonzero, occurs_negative, occurs_sum, occurs_product}
 use Rattle.qe_subst.proofs.Slope.{degree_of_slope}
 

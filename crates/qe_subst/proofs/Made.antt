@@ -1,7 +1,7 @@
 -- What the code makes just above a root.
-use Rattle.std.proofs.Common.{ℕ, suc, ◌≡◌, sym, subst, Bool, false, cond, Option, None, Result}
+use Rattle.std.proofs.Common.{ℕ, ◌≡◌, sym, subst, Bool, false, cond, Option, None, Result}
 use Rattle.qe_poly.specs.Polynomial.{Polynomial}
-use Rattle.qe_poly.specs.Coefficients.{degree_in, derivative}
+use Rattle.qe_poly.specs.Coefficients.{degree_in}
 use Rattle.qe_form.specs.declared.form.Form.{Form}
 use Rattle.qe_form.specs.declared.signs.Signs.{Signs}
 use Rattle.qe_form.specs.Tree.{tree}

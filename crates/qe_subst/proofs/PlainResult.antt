@@ -1,7 +1,7 @@
 -- The substituted formula is plain, and its sets of signs are neither empty nor full.
 use Rattle.std.proofs.Common.{ℕ, zero, suc, ◌≡◌, refl, subst, sym, Bool, true, false, cond, eqb, Option, lit<}
 use Rattle.qe_poly.specs.Polynomial.{Polynomial, negative, product}
-use Rattle.qe_poly.specs.Coefficients.{degree_in, coefficient_in, derivative}
+use Rattle.qe_poly.specs.Coefficients.{degree_in, derivative}
 use Rattle.qe_form.specs.declared.form.Atom as atom
 use Rattle.qe_form.specs.declared.signs.Signs.{Signs}
 use Rattle.qe_form.specs.Signs.{IsProper}
@@ -14,7 +14,7 @@ use Rattle.qe_root.specs.Outcome.{is_zero}
 use Rattle.qe_root.specs.Value.{plain_part_of, root_part_of}
 use Rattle.qe_root.specs.Shape.{formula}
 use Rattle.qe_root.specs.SignForm.{equal, zero_shape, side_shape, sign_shape, sign_formula, norm}
-use Rattle.qe_subst.specs.Substituted.{strict, is_even, is_own, constant, both, either, sign_is, at_root, near, each_coefficient, everywhere, line_below, square_below, at_minus_infinity, above_root, at_point, for_atom, substituted, substituted_each}
+use Rattle.qe_subst.specs.Substituted.{strict, is_even, is_own, constant, sign_is, at_root, near, each_coefficient, everywhere, line_below, square_below, at_minus_infinity, above_root, at_point, for_atom, substituted, substituted_each}
 use Rattle.qe_subst.proofs.ProperSigns.{strict_proper, mirror_proper, equal_proper}
 
 constant_plain : (b : Bool) → IsPlainAndProper (constant b)

@@ -5,7 +5,7 @@ use Rattle.qe_tower.specs.Number.{sign_of}
 use Rattle.qe_tower.specs.Point.{Point}
 use Rattle.qe_poly.specs.Polynomial.{Polynomial}
 use Rattle.qe_form.specs.declared.signs.Signs.{Signs}
-use Rattle.qe_form.specs.Formula.{Formula, Formulas, True, False, And, Or, no_more, more}
+use Rattle.qe_form.specs.Formula.{Formula, Formulas, And, Or, no_more, more}
 use Rattle.qe_form.specs.Value.{value}
 use Rattle.qe_form.specs.Truth.{has_sign, Is}
 use Rattle.qe_subst.specs.Substituted.{sign_is, constant, both, either}

@@ -1,5 +1,5 @@
 -- The substituted formula is true where the formula is, and false where it is, at the place of the test point.
-use Rattle.std.proofs.Common.{ℕ, ◌≡◌, ◌∙◌, ◌≤◌, ◌<◌, ◌⊎◌, ◌↔◌, inl, inr, refl, sym, ap, subst, Bool, true, false, cond, eqb, Option, None, Some, Result, Ok, Err, IfOk, ◌∷◌, arith}
+use Rattle.std.proofs.Common.{ℕ, ◌≡◌, ◌∙◌, ◌≤◌, ◌<◌, ◌⊎◌, ◌↔◌, inl, inr, refl, sym, ap, subst, Bool, true, false, cond, eqb, Option, None, Some, arith}
 use Rattle.std.proofs.lemmas.Bool.{eqb-true}
 use Rattle.std.proofs.lemmas.Bool.Decides.{nat_tests}
 use Rattle.qe_ring.specs.Sign.{Sign}
@@ -25,7 +25,7 @@ use Rattle.qe_root.specs.declared.point.Point as code
 use Rattle.qe_root.specs.declared.point.Point.TheVariants.{Root, RootPlus, MinusInf}
 use Rattle.qe_root.specs.Holds.{StandsAt, OwnIsZero, StandsFor}
 use Rattle.qe_subst.specs.Canonical.{IsCanonical, AreCanonical}
-use Rattle.qe_subst.specs.Substituted.{is_even, everywhere, near, above_root, at_point, for_atom, substituted, substituted_each}
+use Rattle.qe_subst.specs.Substituted.{is_even, everywhere, near, at_point, for_atom, substituted, substituted_each}
 use Rattle.qe_subst.proofs.ProperSigns.{strict_proper}
 use Rattle.qe_subst.proofs.TestFormulas.{Reads, rereads, reads_sign}
 use Rattle.qe_subst.proofs.OnLine.{at_number, coefficient, HoldsThere, sign_at_place, sign_with, sign_there, sign_stays}

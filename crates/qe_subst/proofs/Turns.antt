@@ -9,7 +9,6 @@ use Rattle.qe_root.specs.declared.point.Point.{Point}
 use Rattle.qe_root.specs.declared.stop.SubstStop.{SubstStop}
 use Rattle.qe_root.specs.declared.stop.SubstStop.TheVariants.{At, TooLarge, OutOfMemory}
 use Rattle.qe_root.specs.Atoms.{atoms, atoms_of}
-use Rattle.qe_subst.specs.Fault.{Fault}
 use Rattle.qe_subst.specs.Substituted.{fault_of}
 use Rattle.qe_subst.specs.Stop.{next, after, first_limit, IsStop}
 

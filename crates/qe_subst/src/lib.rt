@@ -10,6 +10,8 @@ mod near;
 mod root;
 mod signs;
 mod stop;
+#[cfg(test)]
+mod tests;
 
 pub use formula::substitute;
 pub use qe_root::{

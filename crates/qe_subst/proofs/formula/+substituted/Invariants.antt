@@ -18,5 +18,5 @@ invariant-each_substituted-loop-form l = record {
   number : after l.number (atoms_of (trees (drop l.form-index l.form-items))) ≡ after l.initial.number (atoms_of (trees l.forms));
   made : followed l.made (substituted_each l.x.0 l.point (option_copied l.own) (trees (drop l.form-index l.form-items)))
       ≡ substituted_each l.x.0 l.point (option_copied l.own) (trees l.forms);
-  canonical : AreCanonical (trees (drop l.form-index l.form-items)) → AreCanonical (trees l.forms)
+  canonical : AreCanonical (trees (drop l.form-index l.form-items)) → AreCanonical (trees l.forms);
 }
