@@ -1,1 +1,5 @@
+pub mod Soundness
 pub mod Turns
+pub mod Alone
+pub mod Roots
+pub mod Growths

@@ -1,7 +1,8 @@
 -- The search comes by the distinct nodes of the tree, each at its first place.
-use Rattle.std.proofs.Common.{ℕ, ◌≡◌, ◌≢◌, ◌∙◌, sym, ap, ap₂, refl, subst, ◌<◌, ◌≤◌, inl, inr, ◌⊎◌, Bool, true, false, not, cond, eqb, List, [], ◌∷◌, ◌++◌, map, map-append, filter, length, length-append, Option, Some, None, Result, Ok, Err, arith}
+use Rattle.std.proofs.Common.{ℕ, ◌≡◌, ◌≢◌, ◌∙◌, sym, ap, ap₂, refl, subst, ◌<◌, ◌≤◌, inl, inr, ◌⊎◌, Bool, true, false, not, cond, eqb, List, [], ◌∷◌, ◌++◌, map, filter, length, length-append, Option, Some, None, Result, Ok, Err, arith}
 use Rattle.std.specs.Option.{option_map}
 use Rattle.std.proofs.lemmas.Bool.{eqb-true}
+use Rattle.std.proofs.lemmas.List.{map-append}
 use Rattle.qe_form.specs.Formula.{Formula}
 use Rattle.qe_form.specs.Measures.{Has}
 use Rattle.qe_tree.specs.Variables.{occurs, remaining}
@@ -156,7 +157,7 @@ module _ (Good : Formula → Type 0) (sound : IsSound Good expansion) (vars : Li
       leaf_is [] f = refl
       leaf_is (y ∷ ys) f = refl
 
-      failure_is : (path : List Step) (o : Option NodeStop) → option_map {A = NodeStop} (λ t. (path, t)) o ≡ or_fails expansion vars path o None
+      failure_is : (path : List Step) (o : Option NodeStop) → option_map (λ (t : NodeStop). (path, t)) o ≡ or_fails expansion vars path o None
       failure_is path None = refl
       failure_is path (Some t) = refl
 
@@ -246,11 +247,11 @@ module _ (Good : Formula → Type 0) (sound : IsSound Good expansion) (vars : Li
       by_turn : IsTurn limit e old new (Ok false) → left_over new.waiting < left_over (e ∷ old.waiting)
       by_turn (inl k) =
           let after = over_is new.waiting t.todo (ap (λ s. s.waiting) k.1 ∙ t.waiting) in
-          let less = less_skipped Good expansion sound vars t.place t.todo t.search.good.0 in omega arith
+          let less = less_skipped Good expansion sound vars t.place t.todo t.search.good.0 in let before_it = whole in omega arith
       by_turn (inr k) =
           let next = visited_searched root limit e old t k.0 k.1 k.2 in
           let after = over_is new.waiting next.todo (ap (λ s. s.waiting) k.3 ∙ next.waiting) in
-          let less = less_left Good expansion sound vars t.place t.todo t.search.good.0 in omega arith
+          let less = less_left Good expansion sound vars t.place t.todo t.search.good.0 in let before_it = whole in omega arith
 
   -- ---- the end
 

@@ -2,7 +2,9 @@
 //! Knows nothing of texts, nor of how a node gets its successors.
 #![tactic(auto)]
 
+mod block;
 mod eliminate;
+mod fine;
 mod search;
 mod step;
 

@@ -1,0 +1,11 @@
+-- The expansion of nodes is sound.
+use Rattle.qe_form.specs.Formula.{Formula}
+use Rattle.qe_simp.specs.Shape.{IsSimplified}
+use Rattle.qe_tree.specs.Sound.{IsSound}
+use Rattle.qe_node.specs.Successors.{expansion}
+
+abbrev pub Good : Formula → Type 0
+Good = IsSimplified
+
+pub sound : IsSound Good expansion
+sound = ?
