@@ -1,6 +1,8 @@
 -- From one block to all: where a block stops, so does the whole; and what is given means the same as the prenex form.
-use Rattle.std.proofs.Common.{ℕ, zero, suc, ◌≡◌, ◌≢◌, ◌∙◌, sym, ap, refl, subst, ◌+◌, ◌<◌, ◌≤◌, inl, inr, ◌⊎◌, true, false, nat_eq, List, [], ◌∷◌, ◌++◌, map, drop, length, Result, Ok, Err, arith}
+use Rattle.std.proofs.Common.{ℕ, zero, suc, ◌≡◌, ◌≢◌, ◌∙◌, sym, ap, refl, subst, ◌+◌, ◌^◌, ◌<◌, ◌≤◌, get_or, inl, inr, ◌⊎◌, true, false, nat_eq, List, [], ◌∷◌, ◌++◌, map, drop, length, Result, Ok, Err, arith}
 use Rattle.std.specs.Prelude.{IfOk, AllPairs}
+use Rattle.std.proofs.Math.Seq.{drop-cons}
+use Rattle.std.proofs.lemmas.List.{drop-map}
 use Rattle.std.specs.List.{IsDistinct, AllByRecursion}
 use Rattle.std.proofs.lemmas.Bool.Decides.{Decides-eqb}
 use Rattle.std.proofs.lemmas.Map.Made.{AllPairs-from_IsDistinct}
@@ -8,6 +10,8 @@ use Rattle.qe_poly.specs.Polynomial.{IsPolynomial}
 use Rattle.qe_poly.specs.declared.monomial.Var.{Var}
 use Rattle.qe_form.specs.Formula.{Formula, Formulas, True, False, Atom, And, Or, Not, Implies, Iff, Ex, All, no_more, more}
 use Rattle.qe_form.specs.Tree.{tree}
+use Rattle.qe_form.specs.Measures.{count}
+use Rattle.qe_form.specs.declared.form.Form.{Form}
 use Rattle.qe_form.specs.Same.{Same, HasNoQuantifier}
 use Rattle.qe_form.specs.Plain.{IsPlain, ArePlainWith}
 use Rattle.qe_norm.specs.declared.prenex.Kind as code_kind
@@ -20,6 +24,7 @@ use Rattle.qe_tree.specs.Block.{Block, quantified_by, prenex, given, stopped, bl
 use Rattle.qe_tree.proofs.Growth.{fine_no_quantifier}
 use Rattle.qe_tree.proofs.Stands.{stands_same}
 use Rattle.qe_tree.proofs.Blocks.{eliminated_stands, from_stands}
+use Rattle.qe_tree.proofs.Small.{block_small}
 use Rattle.qe_node.specs.declared.stop.NodeStop.{NodeStop}
 use Rattle.qe_node.specs.Successors.{expansion}
 use Rattle.qe_block.specs.declared.eliminate.Outcome.{Outcome}
@@ -57,6 +62,66 @@ module _ (m : Formula) where
     pub gives : eliminated_from expansion (suc left) (drop left bs) m ≡ given g
     pub fits : EachBlock expansion (Fits expansion limit) (suc left) (drop left bs) m
     pub fine : IsFine g
+
+drop_next : {A : Type 0} (k : ℕ) (xs : List A) (y : A) (ys : List A) → drop k xs ≡ y ∷ ys → drop (suc k) xs ≡ ys
+drop_next zero [] y ys same = absurd (cc)
+drop_next zero (x ∷ xs) y ys same = cc
+drop_next (suc k) [] y ys same = absurd (cc)
+drop_next (suc k) (x ∷ xs) y ys same = drop_next k xs y ys same
+
+not_empty : {A : Type 0} (k : ℕ) (y : A) (ys : List A) → drop k [] ≡ y ∷ ys → ⊥
+not_empty zero y ys same = absurd (cc)
+not_empty (suc k) y ys same = absurd (cc)
+
+-- one block more
+module _ (m : Formula) (fine : IsFine m) (limit : ℕ) (few : limit < 2 ^ 32) (bs : List Block) (k : ℕ) (b : Block) (rest : List Block) (at : drop k bs ≡ b ∷ rest)
+    (g : Formula) (w : IsEliminated m limit bs (suc k) g) (size : count g < 2 ^ 50) where
+  further : eliminated_from expansion (suc (suc k)) rest m ≡ given g
+  further = ap (λ cs. eliminated_from expansion (suc (suc k)) cs m) (sym (drop_next k bs b rest at)) ∙ w.gives
+
+  over_is : (n : ℕ) → n ≡ suc k → eliminated_from expansion (suc k) (drop k bs) m ≡ block_over expansion b n (given g)
+  over_is n is = ap (λ cs. eliminated_from expansion (suc k) cs m) at ∙ ((λ i. block_over expansion b (suc k) (further i)) ∙ ap (λ j. block_over expansion b j (given g)) (sym is))
+
+  pub block_more : (n : ℕ) → n ≡ suc k → (f : Form) → IsBlock limit n b g (Ok f) → IsEliminated m limit bs k (tree f)
+  block_more n is f answer = record {
+    gives = gives;
+    fits = subst (λ cs. EachBlock expansion (Fits expansion limit) (suc k) cs m) (sym at) (
+      subst (λ cs. EachBlock expansion (Fits expansion limit) (suc (suc k)) cs m) (drop_next k bs b rest at) w.fits,
+      subst (IfGiven expansion (Fits expansion limit b)) (sym further) answer.1,
+    );
+    fine = (from_stands Good expansion sound (suc k) (drop k bs) m (tree f) fine gives).fine;
+  }
+    where
+      gives : eliminated_from expansion (suc k) (drop k bs) m ≡ given (tree f)
+      gives = over_is n is ∙ answer.0
+
+  pub more_small : (n : ℕ) (f : Form) → IsBlock limit n b g (Ok f) → count (tree f) < 2 ^ 50
+  more_small n f answer = block_small Good expansion sound b n g (tree f) limit w.fine answer.0 answer.1 few size
+
+  whole_stops : (j : ℕ) (path : List Step) (s : NodeStop) (cs : List Block) → drop k cs ≡ b ∷ rest → eliminated_from expansion 1 cs m ≡ stopped j path s → eliminated expansion cs m ≡ stopped j path s
+  whole_stops j path s [] here e = absurd (not_empty k b rest here)
+  whole_stops j path s (c ∷ cs) here e = e
+
+  pub block_stops : (n : ℕ) → n ≡ suc k → (e : ElimStop) → IsBlock limit n b g (Err e) → IsAnswer limit bs m (Err e)
+  block_stops n is (stop.Node j path s) answer =
+      let number : j ≡ n = answer.0 in
+      let last : suc k ≡ k + 1 = omega arith in
+      let outward = stop_outward m n (steps_of path.items) s k 1 (suc k) last bs (over_is n is ∙ answer.1) in (
+        whole_stops j (steps_of path.items) s bs at (outward ∙ ap (λ i. stopped i (steps_of path.items) s) (sym number)),
+        subst (λ i. AtBlock expansion (IsWithin expansion limit) i 1 bs m) (sym (number ∙ is)) (at_place m (IsWithin expansion limit) b rest g k 1 (suc k) last bs at further answer.2),
+      )
+  block_stops n is (stop.NodeLimit j most) answer =
+      let number : j ≡ n = answer.0 in
+      let last : suc k ≡ k + 1 = omega arith in
+      (answer.1, subst (λ i. AtBlock expansion (IsBeyond expansion limit) i 1 bs m) (sym (number ∙ is)) (at_place m (IsBeyond expansion limit) b rest g k 1 (suc k) last bs at further answer.2))
+  block_stops n is stop.OutOfMemory answer = tt
+
+-- the block at a place of the code's list
+pub block_at : (items : List normal_form.Block) (k : ℕ) (b : normal_form.Block) → k < length items → b ≡ get_or items k b → drop k items ≡ b ∷ drop (suc k) items
+block_at items k b within is = drop-cons items k b within ∙ ap (λ c. c ∷ drop (suc k) items) (sym is)
+
+pub blocks_at : (items : List normal_form.Block) (k : ℕ) (b : normal_form.Block) → k < length items → b ≡ get_or items k b → drop k (blocks_of items) ≡ block_of b ∷ blocks_of (drop (suc k) items)
+blocks_at items k b within is = drop-map block_of k items ∙ ap blocks_of (block_at items k b within is)
 
 -- where a block has at most the limit's number of distinct nodes, it does not have more
 never_beyond : (limit k n : ℕ) (bs : List Block) (m : Formula) → EachBlock expansion (IsWithin expansion limit) n bs m → AtBlock expansion (IsBeyond expansion limit) k n bs m → ⊥
@@ -145,3 +210,17 @@ distinct_at (c ∷ bs) (suc k) b rest same distinct = distinct_at bs k b rest sa
 
 pub block_distinct : (bs : List normal_form.Block) (k : ℕ) (b : normal_form.Block) (rest : List normal_form.Block) → drop k bs ≡ b ∷ rest → IsDistinct nat_eq (variables bs) → AllPairs (λ x y. x ≢ y) (map (λ x. x.0) b.vars)
 block_distinct bs k b rest same distinct = AllPairs-from_IsDistinct {eq = nat_eq} Decides-eqb (map (λ x. x.0) b.vars) (distinct_at bs k b rest same distinct)
+
+-- ---- each fact of what is given
+
+pub means_same : (bs : List normal_form.Block) (m : Formula) (result : Result Outcome ElimStop) → IfOk result (λ o. Means bs m (tree o.form)) → IfOk result (λ o. Same (meaning bs m) (tree o.form))
+means_same bs m (Ok o) w = w.same
+means_same bs m (Err e) w = tt
+
+pub means_plain : (bs : List normal_form.Block) (m : Formula) (result : Result Outcome ElimStop) → IfOk result (λ o. Means bs m (tree o.form)) → IfOk result (λ o. IsPlain (tree o.form))
+means_plain bs m (Ok o) w = w.plain
+means_plain bs m (Err e) w = tt
+
+pub means_no_quantifier : (bs : List normal_form.Block) (m : Formula) (result : Result Outcome ElimStop) → IfOk result (λ o. Means bs m (tree o.form)) → IfOk result (λ o. HasNoQuantifier (tree o.form))
+means_no_quantifier bs m (Ok o) w = w.no_quantifier
+means_no_quantifier bs m (Err e) w = tt

@@ -3,3 +3,4 @@ pub mod Turns
 pub mod Alone
 pub mod Roots
 pub mod Growths
+pub mod Visits

@@ -158,12 +158,12 @@ fn visit(
     alloc: Global,
     seen: &mut Visited,
     waiting: &mut Vec<Waiting>,
-    next: Waiting,
+    path: Vec<Step>,
+    node: Node,
 ) -> Result<(), OutOfMemory>
-    requires { is_among next.node.form (map tree seen.old.met.keys) ≡ false }
-    ensures { OnOk result (state_of seen.new waiting.new.items ≡ visited (entry_of next) (state_of seen.old waiting.old.items)) }
+    requires { is_among node.form (map tree seen.old.met.keys) ≡ false }
+    ensures { OnOk result (state_of seen.new waiting.new.items ≡ visited (record { path = steps_of path.items; node = node }) (state_of seen.old waiting.old.items)) }
 {
-    let Waiting { path, node } = next;
     branch(
         alloc,
         &mut seen.leaves,
@@ -187,16 +187,17 @@ fn turn(
 ) -> Result<bool, SearchStop>
     ensures { IsTurn limit (entry_of next) (state_of seen.old waiting.old.items) (state_of seen.new waiting.new.items) result }
 {
-    if seen.met.contains(&next.node.form) {
+    let Waiting { path, node } = next;
+    if seen.met.contains(&node.form) {
         return Ok(false);
     }
     if seen.met.len() >= limit as usize {
         return Err(SearchStop::Limit);
     }
-    if is_true(&next.node.form) {
+    if is_true(&node.form) {
         return Ok(true);
     }
-    visit(alloc, seen, waiting, next)?;
+    visit(alloc, seen, waiting, path, node)?;
     Ok(false)
 }
 
