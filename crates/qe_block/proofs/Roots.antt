@@ -32,4 +32,4 @@ pub negation_fine : (m n : Formula) → IsFine m → n ≡ negated m → IsFine 
 negation_fine m n fine same = subst IsFine (sym same) (negated_fine m fine)
 
 pub negation_small : (m n : Formula) → count m < 2 ^ 50 → n ≡ negated m → count n < 2 ^ 50
-negation_small m n few same = subst (λ k. k < 2 ^ 50) (sym (ap count same) ) (subst (λ k. k < 2 ^ 50) (sym (count_negated m)) few)
+negation_small m n few same = subst (λ k. k < 2 ^ 50) (sym (ap count same)) (subst (λ k. k < 2 ^ 50) (sym (count_negated m)) few)

@@ -38,7 +38,10 @@ pub enum ElimStop {
         stop: NodeStop,
     },
     /// The block's tree has more distinct nodes than the limit.
-    NodeLimit { block: u32, limit: u32 },
+    NodeLimit {
+        block: u32,
+        limit: u32,
+    },
     OutOfMemory,
 }
 

@@ -11,5 +11,5 @@ mod step;
 pub use eliminate::{ElimStop, Outcome, eliminate_alone};
 pub use qe_form::Var;
 pub use qe_node::NodeStop;
-pub use step::Step;
 pub use std::alloc::AllocError as OutOfMemory;
+pub use step::Step;

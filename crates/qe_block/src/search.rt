@@ -203,12 +203,7 @@ fn turn(
 
 /// Searches the tree of the node of a simplified formula, with the variables that occur in it. A True leaf ends the search at
 /// once. After a node that fails the search goes on, since a True leaf decides over it.
-pub fn search(
-    alloc: Global,
-    vars: &[Var],
-    form: Form,
-    limit: u32,
-) -> Result<Ended, SearchStop>
+pub fn search(alloc: Global, vars: &[Var], form: Form, limit: u32) -> Result<Ended, SearchStop>
     requires distinct { AllPairs (λ x y. x ≢ y) (map (λ v. v.0) vars.now) }
     requires root { IsRoot (tree form) }
     requires proper { IsPlainAndProper (tree form) }

@@ -1,4 +1,4 @@
-use Rattle.std.proofs.Common.{◌≡◌, ◌∙◌, sym, ap, subst, eqb, length, ◌++◌, map, Ok}
+use Rattle.std.proofs.Common.{◌∙◌, sym, ap, subst, eqb, length, ◌++◌, map, Ok}
 use Rattle.std.specs.declared.alloc.AllocError.{AllocError}
 use Rattle.qe_block.specs.Search.{steps_of, entries, entry_below, IsGrowth}
 use Rattle.qe_block.proofs.Visits.{on_ok_same, successors_wait}

@@ -33,8 +33,8 @@ pub loop-next-smaller : goal.loop-next-smaller
 loop-next-smaller c =
     let vars = map (λ v. v.0) c.args.vars.now in
     let less = turn_shrinks Good sound vars (tree c.args.form) c.args.limit (entry_of c.in-Some.next) (state_of c.loop-next.seen c.pop.new.self.items) (state_of c.turn.new.seen c.turn.new.waiting.items)
-        (taken_from Good sound vars (tree c.args.form) c.args.limit c.loop-next.seen c.loop-next.waiting.items c.pop.new.self.items c.in-Some.next c.in-Some.ensures.items c.loop-next.invariant)
-        (subst (λ b. IsTurn c.args.limit (entry_of c.in-Some.next) (state_of c.loop-next.seen c.pop.new.self.items) (state_of c.turn.new.seen c.turn.new.waiting.items) (Ok b)) c.if-branch.false c.in_ok-turn.ensures) in
+    (taken_from Good sound vars (tree c.args.form) c.args.limit c.loop-next.seen c.loop-next.waiting.items c.pop.new.self.items c.in-Some.next c.in-Some.ensures.items c.loop-next.invariant)
+    (subst (λ b. IsTurn c.args.limit (entry_of c.in-Some.next) (state_of c.loop-next.seen c.pop.new.self.items) (state_of c.turn.new.seen c.turn.new.waiting.items) (Ok b)) c.if-branch.false c.in_ok-turn.ensures) in
     let same = less_over Good sound vars c.loop-next.waiting.items c.pop.new.self.items c.in-Some.next c.in-Some.ensures.items in
     omega arith
 
@@ -47,8 +47,8 @@ loop-next-preserved c =
 
 pub returns-in-Some-fault : goal.returns-in-Some-fault
 returns-in-Some-fault c =
-    ended_failed Good sound (map (λ v. v.0) c.args.vars.now) (tree c.args.form) c.args.limit c.loop-next.seen c.loop-next.waiting.items (no_items c.loop-next.waiting.items c.in_default.ensures.cases.0) c.loop-next.invariant c.in-Some-fault.fault c.in-Some-fault.is
+    ended_failed Good sound (map (λ v. v.0) c.args.vars.now) (tree c.args.form) c.args.limit c.loop-next.seen c.loop-next.waiting.items (no_items c.loop-next.waiting.items (sym c.loop-next.waiting.ok.0 ∙ c.in_default.ensures.cases.0)) c.loop-next.invariant c.in-Some-fault.fault c.in-Some-fault.is
 
 pub returns : goal.returns
 returns c =
-    ended_leaves Good sound (map (λ v. v.0) c.args.vars.now) (tree c.args.form) c.args.limit c.loop-next.seen c.loop-next.waiting.items (no_items c.loop-next.waiting.items c.in_default.ensures.cases.0) c.loop-next.invariant c.in-None.is
+    ended_leaves Good sound (map (λ v. v.0) c.args.vars.now) (tree c.args.form) c.args.limit c.loop-next.seen c.loop-next.waiting.items (no_items c.loop-next.waiting.items (sym c.loop-next.waiting.ok.0 ∙ c.in_default.ensures.cases.0)) c.loop-next.invariant c.in-None.is

@@ -1,7 +1,7 @@
-use Rattle.std.proofs.Common.{◌≡◌, ◌∙◌, sym, ap, refl, inl, inr, ◌<◌, ◌≤◌, length, map, arith}
+use Rattle.std.proofs.Common.{◌∙◌, sym, ap, refl, inl, inr, arith}
 use Rattle.std.proofs.lemmas.List.{length-map}
 use Rattle.qe_form.specs.Tree.{tree}
-use Rattle.qe_tree.specs.Tree.{is_among, is_true}
+use Rattle.qe_tree.specs.Tree.{is_true}
 use Rattle.qe_block.proofs.Visits.{was_met}
 use Rattle.qe_block.proofs.search.turn.Goals as goal
 

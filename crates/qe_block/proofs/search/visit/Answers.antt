@@ -1,4 +1,4 @@
-use Rattle.std.proofs.Common.{◌≡◌, ◌∙◌, sym, ap}
+use Rattle.std.proofs.Common.{sym, ap}
 use Rattle.qe_block.proofs.Visits.{met_more}
 use Rattle.qe_block.proofs.search.visit.Goals as goal
 
