@@ -1,12 +1,11 @@
 -- The prenex form of a formula, and what is known of it.
-use Rattle.std.specs.Prelude.{ℕ, ◌+◌, ◌-◌, ◌^◌, ◌<◌, ◌≤◌, ◌≡◌, true, List, [], length, nat_eq, Result, Ok, Err}
+use Rattle.std.specs.Prelude.{ℕ, ◌-◌, ◌^◌, ◌<◌, ◌≤◌, ◌≡◌, true, List, [], length, nat_eq, Result, Ok, Err}
 use Rattle.std.specs.List.{IsDistinct, Contains, All}
 use Rattle.qe_form.specs.Formula.{Formula}
 use Rattle.qe_form.specs.Tree.{tree}
 use Rattle.qe_form.specs.Same.{IsFree}
 use Rattle.qe_form.specs.Measures.{count}
 use Rattle.qe_form.specs.Numbered.{Occurs}
-use Rattle.qe_norm.specs.declared.prenex.Block.{Block}
 use Rattle.qe_norm.specs.declared.prenex.Prenex.{Prenex}
 use Rattle.qe_norm.specs.declared.prenex.NormStop.{NormStop}
 use Rattle.qe_norm.specs.declared.prenex.NormStop.TheVariants.{TooLarge, OutOfMemory}
@@ -27,6 +26,12 @@ pub record IsPrenexOf (f : Formula) (given : List (List ℕ)) (p : Prenex) : Typ
 -- how many atoms, constants and quantifiers the prenex form has: as many as the normal form
 abbrev pub size : Formula → ℕ
 size f = count (normal_form true f)
+
+-- the prenex form; want of memory may come in its place
+abbrev pub PrenexAnswers : Formula → List (List ℕ) → Result Prenex NormStop → Type 0
+PrenexAnswers f names (Ok p) = IsPrenexOf f names p
+PrenexAnswers f names (Err (TooLarge n)) = ⊥
+PrenexAnswers f names (Err OutOfMemory) = Unit {0}
 
 -- the prenex form where it has at most 65,536 atoms, constants and quantifiers, and else 65,537; want of memory may come in place of either
 abbrev pub Answers : Formula → List (List ℕ) → Result Prenex NormStop → Type 0

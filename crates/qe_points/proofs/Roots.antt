@@ -26,7 +26,7 @@ use Rattle.qe_root.specs.SignForm.{equal, not_equal, at_least}
 use Rattle.qe_root.specs.Value.{IsValue}
 use Rattle.qe_points.specs.declared.candidate.Which.{Which}
 use Rattle.qe_points.specs.declared.candidate.Which.TheVariants.{Linear, Upper, Lower}
-use Rattle.qe_points.specs.Guard.{atomic, both, discriminant, discriminant_of, linear_guard, square_guard, root_guard, is_negative, turned, square_root, root}
+use Rattle.qe_points.specs.Guard.{atomic, both, discriminant_by, discriminant, linear_guard, square_guard, root_guard, is_negative, turned, square_root, root}
 use Rattle.qe_points.specs.Guarded.{Fits}
 use Rattle.qe_points.proofs.Occurring.{coefficient_past}
 use Rattle.qe_points.proofs.OnLine.{sign_with}
@@ -152,9 +152,9 @@ module _ (p : Point) (valid : IsPoint p) where
       (value_of_multiple (pos 4) (product a c) p valid)
       (R.mul-same (whole_number (pos 4), tt) (of_int valid_operations (pos 4)) (val (product a c)) (mul (val a) (val c)) refl (value_of_product a c p valid))
 
-  discriminant_is : (a b c : Polynomial) → ValidEqual (val (discriminant a b c)) (line.discriminant valid_operations (val a) (val b) (val c))
+  discriminant_is : (a b c : Polynomial) → ValidEqual (val (discriminant_by a b c)) (line.discriminant valid_operations (val a) (val b) (val c))
   discriminant_is a b c =
-      R.then (val (discriminant a b c)) (add (val (product b b)) (val (negative four_ac))) (add (mul (val b) (val b)) (neg (mul (of_int valid_operations (pos 4)) (mul (val a) (val c)))))
+      R.then (val (discriminant_by a b c)) (add (val (product b b)) (val (negative four_ac))) (add (mul (val b) (val b)) (neg (mul (of_int valid_operations (pos 4)) (mul (val a) (val c)))))
       (value_of_sum (product b b) (negative four_ac) p valid)
       (R.add-same (val (product b b)) (mul (val b) (val b)) (val (negative four_ac)) (neg (mul (of_int valid_operations (pos 4)) (mul (val a) (val c)))) (value_of_product b b p valid)
       (R.then (val (negative four_ac)) (neg (val four_ac)) (neg (mul (of_int valid_operations (pos 4)) (mul (val a) (val c)))) (negated_is four_ac)
@@ -180,15 +180,15 @@ module _ (p : Point) (valid : IsPoint p) where
     to_square : (q : ValidNumber) (g : Polynomial) (v : ValidNumber) → ValidEqual q (val g)
         → IsRootValue valid_operations valid_sign (neg B) q (line.discriminant valid_operations A B C) (mul (of_int valid_operations (pos 2)) A) v → IsValidRoot (square_root x f g) v
     to_square q g v same h = value_same numbers (neg B) q (line.discriminant valid_operations A B C) (mul (of_int valid_operations (pos 2)) A) v
-        (val (negative (coefficient_in x 1 f))) (val g) (val (discriminant_of x f)) (val (scaled (pos 2) (coefficient_in x 2 f))) v
+        (val (negative (coefficient_in x 1 f))) (val g) (val (discriminant x f)) (val (scaled (pos 2) (coefficient_in x 2 f))) v
         (R.back (val (negative (coefficient_in x 1 f))) (neg B) (negated_is (coefficient_in x 1 f))) same
-        (R.back (val (discriminant_of x f)) (line.discriminant valid_operations A B C) (discriminant_is (coefficient_in x 2 f) (coefficient_in x 1 f) (coefficient_in x 0 f)))
+        (R.back (val (discriminant x f)) (line.discriminant valid_operations A B C) (discriminant_is (coefficient_in x 2 f) (coefficient_in x 1 f) (coefficient_in x 0 f)))
         (R.back (val (scaled (pos 2) (coefficient_in x 2 f))) (mul (of_int valid_operations (pos 2)) A) (double_is (coefficient_in x 2 f))) (R.same v) h
 
     of_square : (q : ValidNumber) (g : Polynomial) (v : ValidNumber) → ValidEqual (val g) q
         → IsValidRoot (square_root x f g) v → IsRootValue valid_operations valid_sign (neg B) q (line.discriminant valid_operations A B C) (mul (of_int valid_operations (pos 2)) A) v
     of_square q g v same h = value_same numbers
-        (val (negative (coefficient_in x 1 f))) (val g) (val (discriminant_of x f)) (val (scaled (pos 2) (coefficient_in x 2 f))) v
+        (val (negative (coefficient_in x 1 f))) (val g) (val (discriminant x f)) (val (scaled (pos 2) (coefficient_in x 2 f))) v
         (neg B) q (line.discriminant valid_operations A B C) (mul (of_int valid_operations (pos 2)) A) v
         (negated_is (coefficient_in x 1 f)) same (discriminant_is (coefficient_in x 2 f) (coefficient_in x 1 f) (coefficient_in x 0 f)) (double_is (coefficient_in x 2 f)) (R.same v) h
 
@@ -223,8 +223,8 @@ module _ (p : Point) (valid : IsPoint p) where
     double : (a : ValidNumber) → IsNotZero (valid_sign a) → IsNotZero (valid_sign (mul (of_int valid_operations (pos 2)) a))
     double a h = subst (λ s. IsNotZero s) (sym (twice_sign a)) h
 
-    radicand_is : valid_sign (val (discriminant_of x f)) ≡ valid_sign (line.discriminant valid_operations A B C)
-    radicand_is = valid_ordered.sign-same (val (discriminant_of x f)) (line.discriminant valid_operations A B C)
+    radicand_is : valid_sign (val (discriminant x f)) ≡ valid_sign (line.discriminant valid_operations A B C)
+    radicand_is = valid_ordered.sign-same (val (discriminant x f)) (line.discriminant valid_operations A B C)
         (discriminant_is (coefficient_in x 2 f) (coefficient_in x 1 f) (coefficient_in x 0 f))
 
     -- past the degree a coefficient is zero
@@ -264,9 +264,9 @@ module _ (p : Point) (valid : IsPoint p) where
         by true = (of_equal_sign (valid_sign A) h.0, (slope, tt))
         by false = slope
     guard_true Upper v h =
-        (of_not_equal_sign (valid_sign A) (half A h.divisor), (of_at_least_sign (valid_sign (val (discriminant_of x f))) (subst (λ s. IsNotMinus s) (sym radicand_is) h.radicand), tt))
+        (of_not_equal_sign (valid_sign A) (half A h.divisor), (of_at_least_sign (valid_sign (val (discriminant x f))) (subst (λ s. IsNotMinus s) (sym radicand_is) h.radicand), tt))
     guard_true Lower v h =
-        (of_not_equal_sign (valid_sign A) (half A h.divisor), (of_at_least_sign (valid_sign (val (discriminant_of x f))) (subst (λ s. IsNotMinus s) (sym radicand_is) h.radicand), tt))
+        (of_not_equal_sign (valid_sign A) (half A h.divisor), (of_at_least_sign (valid_sign (val (discriminant x f))) (subst (λ s. IsNotMinus s) (sym radicand_is) h.radicand), tt))
 
     -- what a true guard of a linear root says
     linear_says : degree_in x f ≤ 2 → Is (linear_guard x f) true p → (valid_sign A ≡ Zero) × IsNotZero (valid_sign B)
@@ -282,7 +282,7 @@ module _ (p : Point) (valid : IsPoint p) where
         by false test h = (no_coefficient 2 (below_two (degree_in x f) low test), not_equal_sign (valid_sign B) h)
 
     square_says : Is (square_guard x f) true p → IsNotZero (valid_sign A) × IsNotMinus (valid_sign (line.discriminant valid_operations A B C))
-    square_says g = (not_equal_sign (valid_sign A) g.0, subst (λ s. IsNotMinus s) radicand_is (at_least_sign (valid_sign (val (discriminant_of x f))) g.1.0))
+    square_says g = (not_equal_sign (valid_sign A) g.0, subst (λ s. IsNotMinus s) radicand_is (at_least_sign (valid_sign (val (discriminant x f))) g.1.0))
 
     at_most_two : (which : Which) → Fits x f which → degree_in x f ≤ 2
     at_most_two Linear fits = fits.1

@@ -30,8 +30,8 @@ use Rattle.qe_points.specs.declared.candidate.Candidate.{Candidate}
 use Rattle.qe_points.specs.declared.candidate.Candidate.TheVariants.{Root}
 use Rattle.qe_points.specs.declared.guard.GuardedPoint.{GuardedPoint}
 use Rattle.qe_points.specs.declared.guard.RootWithGuard.{RootWithGuard}
-use Rattle.qe_points.specs.Guard.{atomic, both, discriminant_of, root_guard, is_negative, turned, square_root, root, at_root}
-use Rattle.qe_points.specs.Guarded.{Fits, HasRoot, IsMade, IsGuarded, IsThere, OccursInRoot, OccursInPoint, IsSound}
+use Rattle.qe_points.specs.Guard.{atomic, both, discriminant, root_guard, is_negative, turned, square_root, root, at_root}
+use Rattle.qe_points.specs.Guarded.{Fits, HasRoot, IsMade, IsGuardedBy, IsThere, OccursInRoot, OccursInPoint, IsSound}
 use Rattle.qe_points.proofs.Occurring.{occurs_coefficient, occurs_negative, occurs_scaled, occurs_difference, occurs_product}
 use Rattle.qe_points.proofs.Roots.{to_value, of_value, turned_value, of_turned, to_root, of_root, guard_flat, root_exists, zero_there}
 
@@ -45,7 +45,7 @@ module _ (x : ℕ) (f : Polynomial) (canonical : IsPolynomial f) (y : ℕ) where
   of_coefficient : (k : ℕ) → OccursInSome y (coefficient_in x k f) → IsOther
   of_coefficient k h = occurs_coefficient x y k f canonical h
 
-  of_discriminant : OccursInSome y (discriminant_of x f) → IsOther
+  of_discriminant : OccursInSome y (discriminant x f) → IsOther
   of_discriminant h = elim (occurs_difference y (product b b) (scaled (pos 4) (product a c)) h) [
     | inl k ↦ elim (occurs_product y b b k) [ inl m ↦ of_coefficient 1 m | inr m ↦ of_coefficient 1 m ]
     | inr k ↦ elim (occurs_product y a c (occurs_scaled y (pos 4) (product a c) k)) [ inl m ↦ of_coefficient 2 m | inr m ↦ of_coefficient 0 m ]
@@ -163,7 +163,7 @@ made_sound x f n which plus guard g p k canonical fits guard_is root_is point_is
     (sound_root x f n which canonical fits plus g (subst (λ z. Keeps z g) guard_is kept) (simple (subst IsPlain (sym guard_is) (plain_guard x f which))))
 
 pub answer_sound : (x : ℕ) (c : Candidate) (f : Polynomial) (n : ℕ) (which : Which) (plus : Bool) (found : RootWithGuard) (o : Option GuardedPoint) → c ≡ Root f n which plus
-    → IsPolynomial f → IsMade (root_guard x f which) (root x f which) found → IsGuarded (tree found.guard) (at_root plus (turned found.root)) o
+    → IsPolynomial f → IsMade (root_guard x f which) (root x f which) found → IsGuardedBy (tree found.guard) (at_root plus (turned found.root)) o
     → IfSome o (λ g. Keeps (tree found.guard) (tree g.guard)) → IfSome o (λ g. IsPlain (tree found.guard) → IsSimplified (tree g.guard))
     → HasRoot x c → IfSome o (λ g. IsSound x c (tree g.guard) g.point)
 answer_sound x c f n which plus found None is canonical made guarded kept simple fits = tt

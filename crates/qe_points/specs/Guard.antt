@@ -27,12 +27,12 @@ atomic p signs = Atom (record { poly = p; signs = signs })
 abbrev pub both : Formula → Formula → Formula
 both f g = And (more f (more g no_more))
 
--- d = b^2 - 4*(a*c)
-abbrev pub discriminant : (a b c : Polynomial) → Polynomial
-discriminant a b c = difference (product b b) (scaled (pos 4) (product a c))
+-- d = b^2 - 4*(a*c), by the coefficients and by the polynomial
+abbrev pub discriminant_by : (a b c : Polynomial) → Polynomial
+discriminant_by a b c = difference (product b b) (scaled (pos 4) (product a c))
 
-abbrev pub discriminant_of : ℕ → Polynomial → Polynomial
-discriminant_of x f = discriminant (coefficient_in x 2 f) (coefficient_in x 1 f) (coefficient_in x 0 f)
+abbrev pub discriminant : ℕ → Polynomial → Polynomial
+discriminant x f = discriminant_by (coefficient_in x 2 f) (coefficient_in x 1 f) (coefficient_in x 0 f)
 
 -- b <> 0, and for degree two a = 0 besides
 abbrev pub linear_guard : ℕ → Polynomial → Formula
@@ -42,7 +42,7 @@ linear_guard x f =
 
 -- a <> 0 and d >= 0
 abbrev pub square_guard : ℕ → Polynomial → Formula
-square_guard x f = both (atomic (coefficient_in x 2 f) not_equal) (atomic (discriminant_of x f) at_least)
+square_guard x f = both (atomic (coefficient_in x 2 f) not_equal) (atomic (discriminant x f) at_least)
 
 -- where the root of this kind is one
 abbrev pub root_guard : ℕ → Polynomial → Which → Formula
@@ -71,7 +71,7 @@ linear_root x f = record { p = negative (coefficient_in x 0 f); q = []; r = []; 
 
 -- (-b + q*sqrt(d))/(2*a)
 abbrev pub square_root : ℕ → Polynomial → Polynomial → RootPoint
-square_root x f q = record { p = negative (coefficient_in x 1 f); q = q; r = discriminant_of x f; s = scaled (pos 2) (coefficient_in x 2 f) }
+square_root x f q = record { p = negative (coefficient_in x 1 f); q = q; r = discriminant x f; s = scaled (pos 2) (coefficient_in x 2 f) }
 
 -- the root of this kind: with the square root added, or taken away
 abbrev pub root : ℕ → Polynomial → Which → RootPoint
@@ -89,20 +89,20 @@ point_of x MinusInf = point.MinusInf
 
 -- ---- the first limit, in the order b*b, a*c, 4*(a*c), d, 2*a
 
-abbrev pub square_limit : (a b c : Polynomial) → Option PolyLimit
-square_limit a b c =
+abbrev pub square_limit_by : (a b c : Polynomial) → Option PolyLimit
+square_limit_by a b c =
     first (
     product_limit b b ∷ product_limit a c ∷ scale_limit (pos 4) (product a c) ∷ sum_limit Sub (product b b) (scaled (pos 4) (product a c))
     ∷ scale_limit (pos 2) a ∷ [])
 
-abbrev pub square_limit_of : ℕ → Polynomial → Option PolyLimit
-square_limit_of x f = square_limit (coefficient_in x 2 f) (coefficient_in x 1 f) (coefficient_in x 0 f)
+abbrev pub square_limit : ℕ → Polynomial → Option PolyLimit
+square_limit x f = square_limit_by (coefficient_in x 2 f) (coefficient_in x 1 f) (coefficient_in x 0 f)
 
 -- of degree one nothing is multiplied
 abbrev pub root_limit : ℕ → Polynomial → Which → Option PolyLimit
 root_limit x f Linear = None
-root_limit x f Upper = square_limit_of x f
-root_limit x f Lower = square_limit_of x f
+root_limit x f Upper = square_limit x f
+root_limit x f Lower = square_limit x f
 
 abbrev pub limit : ℕ → Candidate → Option PolyLimit
 limit x (Root f n which plus) = root_limit x f which

@@ -52,23 +52,13 @@ pub record IsOf (x : ℕ) (f : Formula) (c : Candidate) : Type 0 where
 
 -- ---- the answer
 
--- a guard with a root
-abbrev pub IsMade : Formula → RootPoint → RootWithGuard → Type 0
-IsMade guard k g = (tree g.guard ≡ guard) × (g.root ≡ k)
-
-abbrev pub is_false : Formula → Bool
-is_false False = true
-is_false f = false
-
 -- none where the simplified guard is False, and else that guard with the point
-abbrev pub IsGuarded : Formula → Point → Option GuardedPoint → Type 0
-IsGuarded guard p None = is_false (simplified guard) ≡ true
-IsGuarded guard p (Some g) = (is_false (simplified guard) ≡ false) × ((tree g.guard ≡ simplified guard) × (g.point ≡ p))
+abbrev pub IsGuardedBy : Formula → Point → Option GuardedPoint → Type 0
+IsGuardedBy guard p None = simplified guard ≡ False
+IsGuardedBy guard p (Some g) = (simplified guard ≢ False) × ((tree g.guard ≡ simplified guard) × (g.point ≡ p))
 
--- the refusal for an atom: a limit in its guard
-abbrev pub stop_at : ℕ → PolyStop → SubstStop
-stop_at atom (met.Limit limit) = stop.At atom stage.Guard limit
-stop_at atom met.OutOfMemory = stop.OutOfMemory
+abbrev pub IsGuarded : ℕ → Candidate → Option GuardedPoint → Type 0
+IsGuarded x c found = IsGuardedBy (guard x c) (point_of x c) found
 
 -- it is the candidate's atom
 abbrev pub IsItsAtom : Candidate → ℕ → Type 0
@@ -82,7 +72,7 @@ IsStop x c stop.TooLarge = ⊥
 IsStop x c stop.OutOfMemory = Unit {0}
 
 abbrev pub IsAnswer : ℕ → Candidate → Result (Option GuardedPoint) SubstStop → Type 0
-IsAnswer x c (Ok found) = (limit x c ≡ None) × IsGuarded (guard x c) (point_of x c) found
+IsAnswer x c (Ok found) = (limit x c ≡ None) × IsGuarded x c found
 IsAnswer x c (Err met) = IsStop x c met
 
 -- ---- what the guard tells
@@ -113,3 +103,18 @@ pub record IsSound (x : ℕ) (c : Candidate) (g : Formula) (p : Point) : Type 0 
   pub there : (at : assignment.Point) → assignment.IsPoint at → Is g true at → IsThere x c p at
   pub guard-free : (y : ℕ) → IsFree y g → (y ≢ x) × OccursInOwn y c
   pub point-free : (y : ℕ) → OccursInPoint y p → (y ≢ x) × OccursInOwn y c
+
+-- ---- what the code keeps
+
+-- a guard with a root
+abbrev pub IsMade : Formula → RootPoint → RootWithGuard → Type 0
+IsMade guard k g = (tree g.guard ≡ guard) × (g.root ≡ k)
+
+abbrev pub is_false : Formula → Bool
+is_false False = true
+is_false f = false
+
+-- the refusal for an atom: a limit in its guard
+abbrev pub stop_at : ℕ → PolyStop → SubstStop
+stop_at atom (met.Limit limit) = stop.At atom stage.Guard limit
+stop_at atom met.OutOfMemory = stop.OutOfMemory

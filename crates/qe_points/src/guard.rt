@@ -12,7 +12,7 @@ ghost use Rattle.qe_form.specs.Formula as formula;
 ghost use Rattle.qe_form.specs.Tree.{tree};
 ghost use Rattle.qe_root.specs.Outcome.{IsOutcome};
 ghost use Rattle.qe_points.specs.Guard as meaning;
-ghost use Rattle.qe_points.specs.Guarded.{HasRoot, IsGuarded, IsMade, IsSound, is_false, stop_at};
+ghost use Rattle.qe_points.specs.Guarded.{HasRoot, IsGuardedBy, IsMade, IsSound, is_false, stop_at};
 ghost use Rattle.qe_points.specs.Guarded as answer;
 
 use crate::{Candidate, Form, OutOfMemory, Point, Poly, RootPoint, Stage, SubstStop, Var, Which};
@@ -94,7 +94,7 @@ fn linear_root(alloc: Global, poly: &Poly, x: Var) -> Result<RootWithGuard, OutO
 
 /// `d = b^2 - 4*(a*c)`, and `2*a`.
 fn square_parts(alloc: Global, a: &Poly, b: &Poly, c: &Poly) -> Result<(Poly, Poly), PolyStop>
-    ensures { IsOutcome (meaning.square_limit a.now b.now c.now) (λ r. (r.0 ≡ meaning.discriminant a.now b.now c.now) × (r.1 ≡ scaled (pos 2) a.now)) result }
+    ensures { IsOutcome (meaning.square_limit_by a.now b.now c.now) (λ r. (r.0 ≡ meaning.discriminant_by a.now b.now c.now) × (r.1 ≡ scaled (pos 2) a.now)) result }
 {
     let square = b.mul(alloc, b)?;
     let product = a.mul(alloc, c)?;
@@ -106,7 +106,7 @@ fn square_parts(alloc: Global, a: &Poly, b: &Poly, c: &Poly) -> Result<(Poly, Po
 
 /// The root `(-b + q*sqrt(d))/(2*a)` with its guard `a <> 0 and d >= 0`.
 fn square_root(alloc: Global, poly: &Poly, x: Var, q: Poly) -> Result<RootWithGuard, PolyStop>
-    ensures exact { IsOutcome (meaning.square_limit_of x.0 poly.now) (IsMade (meaning.square_guard x.0 poly.now) (meaning.square_root x.0 poly.now q)) result }
+    ensures exact { IsOutcome (meaning.square_limit x.0 poly.now) (IsMade (meaning.square_guard x.0 poly.now) (meaning.square_root x.0 poly.now q)) result }
     ensures canonical { IfOk result (λ _. spec.IsPolynomial poly.now) }
 {
     let square = poly.coefficient_in(alloc, x, 2)?;
@@ -180,7 +180,7 @@ fn guarded_root(
     found: RootWithGuard,
     plus: bool,
 ) -> Result<Option<GuardedPoint>, OutOfMemory>
-    ensures exact { IfOk result (IsGuarded (tree found.guard) (meaning.at_root plus (meaning.turned found.root))) }
+    ensures exact { IfOk result (IsGuardedBy (tree found.guard) (meaning.at_root plus (meaning.turned found.root))) }
     ensures kept { IfOk result (λ o. IfSome o (λ g. Keeps (tree found.guard) (tree g.guard))) }
     ensures plain { IfOk result (λ o. IfSome o (λ g. IsPlain (tree found.guard) → IsSimplified (tree g.guard))) }
 {
@@ -222,15 +222,16 @@ fn stopped(atom: u64, stop: PolyStop) -> SubstStop
 ///
 /// Where the divisor is a negative number it is negated, and `p` and `q` with it. The operations of `Upper` and `Lower` are, in this
 /// order, `b*b`, `a*c`, 4 times that, the difference `d`, and 2 times `a`. The first limit that one of them meets is the answer, with
-/// the candidate's atom. Where the polynomial has degree one or two in the variable, and two for `Upper` and `Lower`, the guard and
-/// the point are sound: where the guard is true the point is there, and the polynomial is zero there.
+/// the candidate's atom. The polynomial has degree one or two in the variable, and two for `Upper` and `Lower`. Where the guard is
+/// true the point has a place, where the polynomial is zero.
 pub fn guarded(
     alloc: Global,
     candidate: &Candidate,
     x: Var,
 ) -> Result<Option<GuardedPoint>, SubstStop>
+    requires { HasRoot x.0 candidate.now }
     ensures exact { answer.IsAnswer x.0 candidate.now result }
-    ensures sound { HasRoot x.0 candidate.now → IfOk result (λ found. IfSome found (λ g. IsSound x.0 candidate.now (tree g.guard) g.point)) }
+    ensures sound { IfOk result (λ found. IfSome found (λ g. IsSound x.0 candidate.now (tree g.guard) g.point)) }
 {
     match candidate {
         Candidate::MinusInf => Ok(Some(GuardedPoint {

@@ -19,3 +19,6 @@ pub mod Merging
 pub mod Values
 pub mod ProductValues
 pub mod QuadraticValues
+pub mod RenamedValues
+pub mod RenamedMonomials
+pub mod RenamedTerms
