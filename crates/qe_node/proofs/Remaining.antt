@@ -1,6 +1,6 @@
--- The variables that are left of a list, found one after another.
+-- The variables of a list that pass a test, found one after another.
 use Rattle.std.proofs.Common.{◌≢◌, ◌^◌, filter, subst, ℕ, zero, suc, ◌+◌, ◌<◌, ◌≤◌, ◌≡◌, ◌↔◌, ◌∙◌, sym, ap, refl, Bool, true, false, cond, List, [], ◌∷◌, ◌++◌, map, length, get_or, drop, drop-cons, append_assoc, append-nil, arith}
-use Rattle.std.specs.Prelude.{IsTrue, AllPairs, eqb, ◌&&◌}
+use Rattle.std.specs.Prelude.{IsTrue, AllPairs, eqb, not, ◌&&◌}
 use lib.Pointwise.{pointwise}
 use Rattle.std.proofs.lemmas.List.Kept.{AllPairs-filter}
 use Rattle.std.proofs.lemmas.List.{drop_all}
@@ -12,6 +12,7 @@ use Rattle.qe_form.specs.Plain.{IsPlainAndProper}
 use Rattle.qe_tree.specs.Variables.{occurs, remaining}
 use Rattle.qe_tree.proofs.Occurs.{occurs_is_has}
 use Rattle.qe_node.specs.Node.{IsNode}
+use Rattle.qe_node.specs.Answer.{others}
 
 -- the numbers of variables
 abbrev pub numbers : List Var → List ℕ
@@ -31,33 +32,33 @@ numbers-push : (vs : List Var) (v : Var) → numbers (vs ++ v ∷ []) ≡ number
 numbers-push [] v = refl
 numbers-push (u ∷ vs) v = ap (λ xs. u.0 ∷ xs) (numbers-push vs v)
 
-module _ (f : Formula) (vs : List Var) (i : ℕ) (within : i < length vs) (found : List Var) (all : List ℕ) (before : numbers found ++ remaining (numbers (drop i vs)) f ≡ all) where
+module _ (p : ℕ → Bool) (vs : List Var) (i : ℕ) (within : i < length vs) (found : List Var) (all : List ℕ) (before : numbers found ++ filter p (numbers (drop i vs)) ≡ all) where
   abbrev item : Var
   item = get_or vs i (record { 0 = 0 })
 
   abbrev rest : List ℕ
-  rest = remaining (numbers (drop (i + 1) vs)) f
+  rest = filter p (numbers (drop (i + 1) vs))
 
-  left : (b : Bool) → occurs item.0 f ≡ b → remaining (numbers (drop i vs)) f ≡ cond b (item.0 ∷ rest) rest
+  left : (b : Bool) → p item.0 ≡ b → filter p (numbers (drop i vs)) ≡ cond b (item.0 ∷ rest) rest
   left b test =
       let split : drop i vs ≡ item ∷ drop (i + 1) vs = rw add-one (drop-cons vs i (record { 0 = 0 }) within) in
-      ap (λ us. remaining (numbers us) f) split ∙ ap (λ b. cond b (item.0 ∷ rest) rest) test
+      ap (λ us. filter p (numbers us)) split ∙ ap (λ b. cond b (item.0 ∷ rest) rest) test
 
-  -- one turn at a variable that occurs
-  pub one_more : (b : Bool) (now : List Var) → b ≡ occurs item.0 f → b ≡ true → now ≡ found ++ item ∷ [] → numbers now ++ rest ≡ all
+  -- one turn at a variable that passes the test
+  pub one_more : (b : Bool) (now : List Var) → b ≡ p item.0 → b ≡ true → now ≡ found ++ item ∷ [] → numbers now ++ rest ≡ all
   one_more b now is passes pushed =
       ap (λ us. numbers us ++ rest) pushed ∙ ap (λ xs. xs ++ rest) (numbers-push found item) ∙ append_assoc (numbers found) (item.0 ∷ []) rest
       ∙ ap (λ xs. numbers found ++ xs) (sym (left true (sym is ∙ passes))) ∙ before
 
   -- and at one that does not
-  pub none_more : (b : Bool) (now : List Var) → b ≡ occurs item.0 f → b ≡ false → now ≡ found → numbers now ++ rest ≡ all
+  pub none_more : (b : Bool) (now : List Var) → b ≡ p item.0 → b ≡ false → now ≡ found → numbers now ++ rest ≡ all
   none_more b now is fails same =
       ap (λ us. numbers us ++ rest) same ∙ ap (λ xs. numbers found ++ xs) (sym (left false (sym is ∙ fails))) ∙ before
 
 -- the end of the loop
-pub all_found : (f : Formula) (vs : List Var) (i : ℕ) (found : List Var) (all : List ℕ) → length vs ≤ i → numbers found ++ remaining (numbers (drop i vs)) f ≡ all → numbers found ≡ all
-all_found f vs i found all past before =
-    sym (append-nil (numbers found)) ∙ ap (λ us. numbers found ++ remaining (numbers us) f) (sym (drop_all i vs past)) ∙ before
+pub all_found : (p : ℕ → Bool) (vs : List Var) (i : ℕ) (found : List Var) (all : List ℕ) → length vs ≤ i → numbers found ++ filter p (numbers (drop i vs)) ≡ all → numbers found ≡ all
+all_found p vs i found all past before =
+    sym (append-nil (numbers found)) ∙ ap (λ us. numbers found ++ filter p (numbers us)) (sym (drop_all i vs past)) ∙ before
 
 -- ---- variables and their numbers
 
@@ -83,3 +84,7 @@ pub node_of : (vars : List ℕ) (f : Formula) (left : List ℕ) (g : Formula) �
 node_of vars f left g is same distinct proper small =
     subst (λ xs. IsNode (record { vars = xs; form = g })) (sym is) (subst (λ h. IsNode (record { vars = remaining vars f; form = h })) (sym same)
     (record { distinct = AllPairs-filter (λ x y. x ≢ y) (λ x. occurs x f) vars distinct; occurring = filter-again (λ x. occurs x f) vars; proper = proper; small = small }))
+
+-- the variables other than one are distinct too
+pub others_distinct : (x : ℕ) (vars left : List ℕ) → left ≡ others x vars → AllPairs (λ x y. x ≢ y) vars → AllPairs (λ x y. x ≢ y) left
+others_distinct x vars left is distinct = subst (λ xs. AllPairs (λ (y : ℕ) z. y ≢ z) xs) (sym is) (AllPairs-filter (λ y z. y ≢ z) (λ y. not (eqb y x)) vars distinct)
