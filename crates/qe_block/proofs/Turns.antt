@@ -1,7 +1,8 @@
 -- The search comes by the distinct nodes of the tree, each at its first place.
-use Rattle.std.proofs.Common.{ℕ, ◌≡◌, ◌≢◌, ◌∙◌, sym, ap, ap₂, refl, subst, ◌<◌, ◌≤◌, inl, inr, ◌⊎◌, Bool, true, false, not, cond, eqb, List, [], ◌∷◌, ◌++◌, map, map-append, filter, length, length-append, Option, Some, None, Result, Ok, Err, arith}
+use Rattle.std.proofs.Common.{ℕ, ◌≡◌, ◌≢◌, ◌∙◌, sym, ap, ap₂, refl, subst, ◌<◌, ◌≤◌, inl, inr, ◌⊎◌, Bool, true, false, not, cond, eqb, List, [], ◌∷◌, ◌++◌, map, filter, length, length-append, Option, Some, None, Result, Ok, Err, arith}
 use Rattle.std.specs.Option.{option_map}
 use Rattle.std.proofs.lemmas.Bool.{eqb-true}
+use Rattle.std.proofs.lemmas.List.{map-append, reverse-append}
 use Rattle.qe_form.specs.Formula.{Formula}
 use Rattle.qe_form.specs.Measures.{Has}
 use Rattle.qe_tree.specs.Variables.{occurs, remaining}
@@ -17,7 +18,12 @@ use Rattle.qe_node.specs.Successors.{expansion}
 use Rattle.qe_node.specs.Answer.{others}
 use Rattle.qe_block.specs.declared.search.SearchStop.{SearchStop}
 use Rattle.qe_block.specs.declared.search.SearchStop.TheVariants as stop
-use Rattle.qe_block.specs.Search.{Entry, State, leaf_of, failure_at, entry_at, entries_below, or_else, visited, IsTurn}
+use Rattle.qe_form.specs.Tree.{tree}
+use Rattle.qe_block.specs.declared.step.Waiting.{Waiting}
+use Rattle.qe_block.specs.declared.step.Fault.{Fault}
+use Rattle.qe_block.specs.declared.search.Visited.{Visited}
+use Rattle.qe_block.specs.declared.search.Ended.TheVariants as ended
+use Rattle.qe_block.specs.Search.{steps_of, Entry, entry_of, entries, State, fault_of, state_of, leaf_of, failure_at, entry_at, entries_below, or_else, visited, IsTurn, IsEnd}
 
 -- ---- what is left of the variables of a successor
 
@@ -156,7 +162,7 @@ module _ (Good : Formula → Type 0) (sound : IsSound Good expansion) (vars : Li
       leaf_is [] f = refl
       leaf_is (y ∷ ys) f = refl
 
-      failure_is : (path : List Step) (o : Option NodeStop) → option_map {A = NodeStop} (λ t. (path, t)) o ≡ or_fails expansion vars path o None
+      failure_is : (path : List Step) (o : Option NodeStop) → option_map (λ (t : NodeStop). (path, t)) o ≡ or_fails expansion vars path o None
       failure_is path None = refl
       failure_is path (Some t) = refl
 
@@ -183,6 +189,11 @@ module _ (Good : Formula → Type 0) (sound : IsSound Good expansion) (vars : Li
           both_ways : {ss ts : List (Step × Formula)} → ss ≡ ts → Same ts → Same ss
           both_ways same h = subst Same (sym same) h
 
+      visited_waiting : (visited e s).waiting ≡ map entry (children Good expansion sound vars w.place.path (below expansion vars w.place.form) ++ w.todo)
+      visited_waiting = (λ i. entries_below (w.own i) ++ w.waiting i)
+          ∙ (ap (λ es. es ++ map entry w.todo) (below_are w.place.path w.place.form w.search.good.0)
+          ∙ sym (map-append entry (children Good expansion sound vars w.place.path (below expansion vars w.place.form)) w.todo))
+
       visited_searched : length s.met < limit → is_true e.node.form ≡ false → IsSearched root limit (visited e s)
       visited_searched room untrue = record {
         done = w.done ++ w.place ∷ [];
@@ -194,9 +205,7 @@ module _ (Good : Formula → Type 0) (sound : IsSound Good expansion) (vars : Li
             ∙ (ap (or_else (first_failure expansion vars w.done)) (failure_is w.place.path (failure expansion vars w.place.form))
             ∙ (else_is (first_failure expansion vars w.done) (tree_ends.one_failure expansion vars w.place)
             ∙ sym (tree_ends.failure_more expansion vars w.done w.place)));
-        waiting = (λ i. entries_below (w.own i) ++ w.waiting i)
-            ∙ (ap (λ es. es ++ map entry w.todo) (below_are w.place.path w.place.form w.search.good.0)
-            ∙ sym (map-append entry (children Good expansion sound vars w.place.path (below expansion vars w.place.form)) w.todo));
+        waiting = visited_waiting;
         none = tree_ends.true_more expansion vars w.done w.place w.none (ap is_true (sym form_is) ∙ untrue);
         few = let met_too = ap length w.met ∙ length_forms w.done in let last = length-append w.done (w.place ∷ []) in omega arith;
       }
@@ -246,11 +255,10 @@ module _ (Good : Formula → Type 0) (sound : IsSound Good expansion) (vars : Li
       by_turn : IsTurn limit e old new (Ok false) → left_over new.waiting < left_over (e ∷ old.waiting)
       by_turn (inl k) =
           let after = over_is new.waiting t.todo (ap (λ s. s.waiting) k.1 ∙ t.waiting) in
-          let less = less_skipped Good expansion sound vars t.place t.todo t.search.good.0 in omega arith
+          let less = less_skipped Good expansion sound vars t.place t.todo t.search.good.0 in let before_it = whole in omega arith
       by_turn (inr k) =
-          let next = visited_searched root limit e old t k.0 k.1 k.2 in
-          let after = over_is new.waiting next.todo (ap (λ s. s.waiting) k.3 ∙ next.waiting) in
-          let less = less_left Good expansion sound vars t.place t.todo t.search.good.0 in omega arith
+          let after = over_is new.waiting _ (ap (λ s. s.waiting) k.3 ∙ visited_waiting root limit e old t k.0) in
+          let less = less_left Good expansion sound vars t.place t.todo t.search.good.0 in let before_it = whole in omega arith
 
   -- ---- the end
 
@@ -273,3 +281,45 @@ module _ (Good : Formula → Type 0) (sound : IsSound Good expansion) (vars : Li
             few = let counted = ap length all in let most = w.few in omega arith;
           }
       by_todo (t ∷ todo) search same = absurd (cc)
+
+  -- ---- as the code's steps say it
+
+  -- a node was taken from those that wait
+  pub turn_ends : (root : Formula) (limit : ℕ) (e : Entry) (old new : State) (f : SearchStop) → IsSearched root limit (before e old) → IsTurn limit e old new (Err f) → IsEnd vars root limit (Err f)
+  turn_ends root limit e old new stop.Limit w t = turn_stops root limit e old new w t
+  turn_ends root limit e old new stop.OutOfMemory w t = tt
+
+-- ---- the nodes that wait, as the code keeps them
+
+popped : (items rest : List Waiting) (next : Waiting) → items ≡ rest ++ next ∷ [] → entries items ≡ entry_of next ∷ entries rest
+popped items rest next is = ap entries is ∙ ap (map entry_of) (reverse-append rest (next ∷ []))
+
+module _ (Good : Formula → Type 0) (sound : IsSound Good expansion) (vars : List ℕ) where
+  pub start_waiting : (w : Waiting) (f : Formula) → w.path.items ≡ [] → w.node.vars ≡ remaining vars f → w.node.form ≡ f → (items old : List Waiting) → items ≡ old ++ w ∷ [] → old ≡ []
+      → entries items ≡ record { path = []; node = record { vars = remaining vars f; form = f } } ∷ []
+  start_waiting w f path left form items old is none =
+      ap entries (is ∙ ap (λ ws. ws ++ w ∷ []) none) ∙ λ i. record { path = steps_of (path i); node = record { vars = left i; form = form i } } ∷ []
+
+  pub taken_from : (root : Formula) (limit : ℕ) (v : Visited) (items rest : List Waiting) (next : Waiting) → items ≡ rest ++ next ∷ [] → IsSearched Good sound vars root limit (state_of v items)
+      → IsSearched Good sound vars root limit (before Good sound vars (entry_of next) (state_of v rest))
+  taken_from root limit v items rest next is w =
+      subst (λ es. IsSearched Good sound vars root limit (record { met = map tree v.met.keys; leaves = map tree v.leaves.items; fault = option_map fault_of v.fault; waiting = es })) (popped items rest next is) w
+
+  pub less_over : (items rest : List Waiting) (next : Waiting) → items ≡ rest ++ next ∷ [] → left_over Good sound vars (entries items) ≡ left_over Good sound vars (entry_of next ∷ entries rest)
+  less_over items rest next is = ap (left_over Good sound vars) (popped items rest next is)
+
+  -- the end of the search where none waits
+  pub ended_leaves : (root : Formula) (limit : ℕ) (v : Visited) (items : List Waiting) → items ≡ [] → IsSearched Good sound vars root limit (state_of v items) → v.fault ≡ None → IsEnd vars root limit (Ok (ended.Leaves v.leaves))
+  ended_leaves root limit v items gone w none =
+      let all = searched_whole Good sound vars root limit (state_of v items) w (ap entries gone) in
+      (all.none, all.fault ∙ ap (option_map fault_of) none, all.leaves, all.few)
+
+  pub ended_failed : (root : Formula) (limit : ℕ) (v : Visited) (items : List Waiting) → items ≡ [] → IsSearched Good sound vars root limit (state_of v items) → (f : Fault) → v.fault ≡ Some f → IsEnd vars root limit (Ok (ended.Failed f))
+  ended_failed root limit v items gone w f some =
+      let all = searched_whole Good sound vars root limit (state_of v items) w (ap entries gone) in
+      (all.none, all.fault ∙ ap (option_map fault_of) some, all.few)
+
+-- an empty list
+pub no_items : {A : Type 0} (items : List A) → length items ≡ 0 → items ≡ []
+no_items [] none = refl
+no_items (x ∷ xs) none = absurd (omega arith)

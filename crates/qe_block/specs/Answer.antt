@@ -2,10 +2,13 @@
 use Rattle.std.specs.Prelude.{ℕ, ◌≡◌, List, map, Result, Ok, Err}
 use Rattle.qe_form.specs.Formula.{Formula}
 use Rattle.qe_form.specs.Tree.{tree}
+use Rattle.qe_form.specs.declared.form.Form.{Form}
+use Rattle.qe_simp.specs.Simplified.{simplified}
 use Rattle.qe_norm.specs.declared.prenex.Kind as norm
 use Rattle.qe_norm.specs.declared.prenex.Kind.TheVariants as kind
 use Rattle.qe_norm.specs.declared.prenex.Block as normal_form
-use Rattle.qe_tree.specs.Block.{Quantifier, exists, for_all, Block, given, stopped, eliminated, EachBlock, AtBlock, Fits, IsWithin, IsBeyond}
+use Rattle.qe_tree.specs.Sound.{IsFine}
+use Rattle.qe_tree.specs.Block.{Quantifier, exists, for_all, Block, given, stopped, block_over, eliminated, EachBlock, AtBlock, Fits, IsWithin, IsBeyond}
 use Rattle.qe_node.specs.Successors.{expansion}
 use Rattle.qe_block.specs.Search.{steps_of}
 use Rattle.qe_block.specs.declared.eliminate.Outcome.{Outcome}
@@ -21,6 +24,22 @@ block_of b = record { kind = quantifier_of b.kind; vars = map (λ x. x.0) b.vars
 
 abbrev pub blocks_of : List normal_form.Block → List Block
 blocks_of bs = map block_of bs
+
+-- ---- a block
+
+-- the formula is the simplified form of one that the method works on
+abbrev pub IsRoot : Formula → Type 0
+IsRoot f = (m : Formula) × (IsFine m × (f ≡ simplified m))
+
+-- What the block with the number n gives over a matrix: a form, and its tree has a true leaf or at most the limit's number of distinct
+-- nodes; or its first node that fails, and the tree has at most that number; or the limit, where the tree has more.
+abbrev pub IsBlock : ℕ → ℕ → Block → Formula → Result Form ElimStop → Type 0
+IsBlock limit n b m (Ok f) = (block_over expansion b n (given m) ≡ given (tree f)) × Fits expansion limit b m
+IsBlock limit n b m (Err (stop.Node k path s)) = (k ≡ n) × (block_over expansion b n (given m) ≡ stopped n (steps_of path.items) s) × IsWithin expansion limit b m
+IsBlock limit n b m (Err (stop.NodeLimit k most)) = (k ≡ n) × (most ≡ limit) × IsBeyond expansion limit b m
+IsBlock limit n b m (Err stop.OutOfMemory) = Unit {0}
+
+-- ---- all blocks
 
 -- A form is what elimination gives, and each block's tree has a true leaf or at most the limit's number of distinct nodes. A failing
 -- node is the first of its block, the innermost that stops, whose tree has at most that number. The limit is met only where a

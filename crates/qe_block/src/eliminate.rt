@@ -1,19 +1,25 @@
 //! Elimination of all blocks of a prenex form.
 
-ghost use Rattle.std.specs.Prelude.{◌≤◌, IfOk};
+ghost use Rattle.std.specs.Prelude.{◌≤◌, ◌<◌, ◌-◌, ◌^◌, length, nat_eq, IfOk};
+ghost use Rattle.std.specs.List.{IsDistinct};
 ghost use Rattle.qe_form.specs.Tree.{tree};
 ghost use Rattle.qe_form.specs.Measures.{count};
 ghost use Rattle.qe_form.specs.Plain.{IsPlain};
 ghost use Rattle.qe_form.specs.Same.{Same, HasNoQuantifier};
 ghost use Rattle.qe_norm.specs.Prenex.{IsWellNumbered, stands_for};
+ghost use Rattle.qe_norm.specs.Blocks.{variables};
+ghost use Rattle.qe_tree.specs.Sound.{IsFine};
 ghost use Rattle.qe_tree.specs.Block.{EachBlock, IsWithin};
 ghost use Rattle.qe_node.specs.Successors.{expansion};
 ghost use Rattle.qe_block.specs.Answer.{blocks_of, IsAnswer, IsNoLimit};
 
+use crate::block::eliminate_block;
+use crate::fine::look_at;
 use crate::step::Step;
 use qe_form::Form;
 use qe_node::NodeStop;
 use qe_norm::Prenex;
+use qe_simp::simplify;
 use std::alloc::{AllocError, Global};
 
 /// What elimination gives: a formula without quantifiers.
@@ -32,7 +38,10 @@ pub enum ElimStop {
         stop: NodeStop,
     },
     /// The block's tree has more distinct nodes than the limit.
-    NodeLimit { block: u32, limit: u32 },
+    NodeLimit {
+        block: u32,
+        limit: u32,
+    },
     OutOfMemory,
 }
 
@@ -45,6 +54,29 @@ impl From<AllocError> for ElimStop {
     fn from(_error: AllocError) -> ElimStop {
         ElimStop::OutOfMemory
     }
+}
+
+/// Eliminates the blocks of a prenex form from the innermost.
+fn eliminate_blocks(alloc: Global, prenex: &Prenex, limit: u32) -> Result<Outcome, ElimStop>
+    requires distinct { IsDistinct nat_eq (variables prenex.now.blocks.items) }
+    requires few { length prenex.now.blocks.items < 2 ^ 32 - 1 }
+    requires fine { IsFine (tree prenex.now.matrix) }
+    requires small { count (tree prenex.now.matrix) ≤ 65536 }
+    ensures { IsAnswer limit (blocks_of prenex.now.blocks.items) (tree prenex.now.matrix) result }
+{
+    let mut form = prenex.matrix.copy(alloc)?;
+    let mut left = prenex.blocks.len();
+    if left == 0 {
+        return Ok(Outcome {
+            form: simplify(alloc, form)?,
+        });
+    }
+    while left > 0 {
+        left -= 1;
+        let number = left as u32 + 1;
+        form = eliminate_block(alloc, &prenex.blocks[left], number, form, limit)?;
+    }
+    Ok(Outcome { form })
 }
 
 /// A formula without quantifiers that means the same as the prenex form. The blocks are eliminated from the innermost, the
@@ -64,5 +96,6 @@ pub fn eliminate_alone(alloc: Global, prenex: &Prenex, limit: u32) -> Result<Out
     ensures plain { IfOk result (λ o. IsPlain (tree o.form)) }
     ensures no_quantifier { IfOk result (λ o. HasNoQuantifier (tree o.form)) }
 {
-    Err(ElimStop::OutOfMemory)
+    look_at(&prenex.matrix);
+    eliminate_blocks(alloc, prenex, limit)
 }

@@ -2,12 +2,16 @@
 //! Knows nothing of texts, nor of how a node gets its successors.
 #![tactic(auto)]
 
+mod block;
 mod eliminate;
+mod fine;
 mod search;
 mod step;
+#[cfg(test)]
+mod tests;
 
 pub use eliminate::{ElimStop, Outcome, eliminate_alone};
 pub use qe_form::Var;
 pub use qe_node::NodeStop;
-pub use step::Step;
 pub use std::alloc::AllocError as OutOfMemory;
+pub use step::Step;

@@ -1,18 +1,20 @@
 //! The search through the tree of a block, depth first. A formula that was met is passed over when it comes up again.
 
-ghost use Rattle.std.specs.Prelude.{◌≡◌, ◌++◌, map, false, OnOk, ℕ};
+ghost use Rattle.std.specs.Prelude.{◌≡◌, ◌≢◌, ◌<◌, ◌^◌, ◌++◌, map, false, OnOk, AllPairs};
 ghost use Rattle.std.specs.Option.{option_map};
 ghost use Rattle.qe_form.specs.Tree.{tree};
 ghost use Rattle.qe_tree.specs.Tree.{is_among};
 ghost use Rattle.qe_tree.specs.Tree as spec;
-ghost use Rattle.qe_node.specs.Node.{Sight};
+ghost use Rattle.qe_form.specs.Measures.{count};
+ghost use Rattle.qe_form.specs.Plain.{IsPlainAndProper};
+ghost use Rattle.qe_block.specs.Answer.{IsRoot};
 ghost use Rattle.qe_block.specs.Search.{steps_of, fault_of, entry_of, entries, entry_below, IsGrowth, leaf_of, failure_at, entries_below, or_else, state_of, visited, IsTurn, IsEnd};
 
 use crate::OutOfMemory;
 use crate::step::{Fault, Step, Waiting};
 use indexmap::IndexSet;
 use qe_form::{Form, Var};
-use qe_node::{Made, Next, Node, NodeStop, successors};
+use qe_node::{Made, Next, Node, NodeStop, root, successors};
 use qe_points::choose;
 use std::alloc::{AllocError, AllocFailed, Global};
 
@@ -156,12 +158,12 @@ fn visit(
     alloc: Global,
     seen: &mut Visited,
     waiting: &mut Vec<Waiting>,
-    next: Waiting,
+    path: Vec<Step>,
+    node: Node,
 ) -> Result<(), OutOfMemory>
-    requires { is_among next.node.form (map tree seen.old.met.keys) ≡ false }
-    ensures { OnOk result (state_of seen.new waiting.new.items ≡ visited (entry_of next) (state_of seen.old waiting.old.items)) }
+    requires { is_among node.form (map tree seen.old.met.keys) ≡ false }
+    ensures { OnOk result (state_of seen.new waiting.new.items ≡ visited (record { path = steps_of path.items; node = node }) (state_of seen.old waiting.old.items)) }
 {
-    let Waiting { path, node } = next;
     branch(
         alloc,
         &mut seen.leaves,
@@ -185,15 +187,52 @@ fn turn(
 ) -> Result<bool, SearchStop>
     ensures { IsTurn limit (entry_of next) (state_of seen.old waiting.old.items) (state_of seen.new waiting.new.items) result }
 {
-    if seen.met.contains(&next.node.form) {
+    let Waiting { path, node } = next;
+    if seen.met.contains(&node.form) {
         return Ok(false);
     }
     if seen.met.len() >= limit as usize {
         return Err(SearchStop::Limit);
     }
-    if is_true(&next.node.form) {
+    if is_true(&node.form) {
         return Ok(true);
     }
-    visit(alloc, seen, waiting, next)?;
+    visit(alloc, seen, waiting, path, node)?;
     Ok(false)
+}
+
+/// Searches the tree of the node of a simplified formula, with the variables that occur in it. A True leaf ends the search at
+/// once. After a node that fails the search goes on, since a True leaf decides over it.
+pub fn search(alloc: Global, vars: &[Var], form: Form, limit: u32) -> Result<Ended, SearchStop>
+    requires distinct { AllPairs (λ x y. x ≢ y) (map (λ v. v.0) vars.now) }
+    requires root { IsRoot (tree form) }
+    requires proper { IsPlainAndProper (tree form) }
+    requires small { count (tree form) < 2 ^ 50 }
+    ensures { IsEnd (map (λ v. v.0) vars.now) (tree form) limit result }
+{
+    let node = root(alloc, vars, form)?;
+    let mut seen = Visited {
+        met: IndexSet::new(alloc),
+        leaves: Vec::new(alloc),
+        fault: None,
+    };
+    let mut waiting = Vec::new(alloc);
+    waiting.push(Waiting {
+        path: Vec::new(alloc),
+        node,
+    })?;
+    while let Some(next) = waiting.pop() {
+        if turn(alloc, limit, &mut seen, &mut waiting, next)? {
+            return Ok(Ended::True);
+        }
+    }
+    let Visited {
+        met: _,
+        leaves,
+        fault,
+    } = seen;
+    match fault {
+        Some(fault) => Ok(Ended::Failed(fault)),
+        None => Ok(Ended::Leaves(leaves)),
+    }
 }
