@@ -1,0 +1,14 @@
+//! What a machine over nodes asks of a node, of the maker of its successors and of the one who may stop it.
+//! Knows no formulas, no machine and no threads.
+#![tactic(auto)]
+
+mod maker;
+mod piece;
+mod stop;
+#[cfg(test)]
+mod tests;
+
+pub use maker::{Made, Maker, Next};
+pub use piece::Piece;
+pub use std::alloc::AllocError as OutOfMemory;
+pub use stop::{Never, Stop};
