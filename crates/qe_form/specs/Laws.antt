@@ -12,6 +12,7 @@ use Rattle.qe_form.specs.Order.{formula_cmp}
 use Rattle.qe_form.specs.Value.{value}
 use Rattle.qe_form.specs.Truth.{Is}
 use Rattle.qe_form.specs.Same.{IsFree, HasNoQuantifier, Gives, Same, SameEach}
+use Rattle.qe_form.specs.Preserved.{Preserves, IsDecided, HasDecidedCore, HasOuterQuantifiers}
 
 -- no formula is both true and false at a point
 abbrev pub NeverBoth : Type 0
@@ -52,6 +53,27 @@ BothOrNeither f g p = (Is f true p × Is g true p) ⊎ (Is f false p × Is g fal
 -- where g has no quantifier, `Same f g` says that both are true or both are false
 abbrev pub SameIsLiteral : Type 0
 SameIsLiteral = (f g : Formula) → HasNoQuantifier g → Same f g → (p : Point) → IsPoint p → Gives p f → BothOrNeither f g p
+
+-- where it is decided whether f is true, what preserves f is the same as f
+abbrev pub PreservesIsSame : Type 0
+PreservesIsSame = (f g : Formula) → IsDecided f → Preserves f g → Same f g
+
+-- `Preserves` is an order of formulas, and what is the same is preserved
+pub record PreservesIsPreorder : Type 0 where
+  pub reflexive : (f : Formula) → Preserves f f
+  pub transitive : (f g h : Formula) → Preserves f g → Preserves g h → Preserves f h
+  pub same : (f g : Formula) → Same f g → Preserves f g
+
+-- negation and the quantifiers keep `Preserves`
+pub record PreservesIsKept : Type 0 where
+  pub under_not : (f g : Formula) → Preserves f g → Preserves (Not f) (Not g)
+  pub under_ex : (x : ℕ) (f g : Formula) → Preserves f g → Preserves (Ex x f) (Ex x g)
+  pub under_all : (x : ℕ) (f g : Formula) → Preserves f g → Preserves (All x f) (All x g)
+
+-- what follows outer quantifiers and negations is decided where it has no quantifier, and each formula where excluded middle holds of truth
+pub record CoresAreDecided : Type 0 where
+  pub outer : (f : Formula) → HasOuterQuantifiers f → HasDecidedCore f
+  pub settled : ((f : Formula) (p : Point) → IsSettled f p) → (f : Formula) → HasDecidedCore f
 
 -- the value of a sum is the sum of the values
 abbrev pub ValueOfSum : Type 0

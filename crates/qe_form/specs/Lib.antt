@@ -4,6 +4,8 @@ pub mod Tree
 pub mod Value
 pub mod Truth
 pub mod Same
+pub mod Preserved
+pub mod Numbered
 pub mod Plain
 pub mod Measures
 pub mod Order

@@ -1,6 +1,6 @@
 //! The laws of values, of truth and of the order. Each function does nothing: its clause is the law.
 
-ghost use Rattle.qe_form.specs.Laws.{NeverBoth, Decided, Classical, SameIsPreorder, SameIsKept, SameIsLiteral, ValueOfSum, ValueOfNegative, ValueOfProduct, ValueOfMultiple, EqualPoints, OccurringIsFree, OrderIsTotal};
+ghost use Rattle.qe_form.specs.Laws.{NeverBoth, Decided, Classical, SameIsPreorder, SameIsKept, SameIsLiteral, PreservesIsSame, PreservesIsPreorder, PreservesIsKept, CoresAreDecided, ValueOfSum, ValueOfNegative, ValueOfProduct, ValueOfMultiple, EqualPoints, OccurringIsFree, OrderIsTotal};
 
 /// No formula is both true and false at a point.
 pub fn never_both()
@@ -30,6 +30,26 @@ pub fn same_is_kept()
 /// Where the second formula has no quantifier, both are true or both are false.
 pub fn same_is_literal()
     ensures { SameIsLiteral }
+{}
+
+/// Where it is decided whether a formula is true, what preserves it is the same as it.
+pub fn preserves_is_same()
+    ensures { PreservesIsSame }
+{}
+
+/// `Preserves` is reflexive and transitive, and follows from `Same`.
+pub fn preserves_is_preorder()
+    ensures { PreservesIsPreorder }
+{}
+
+/// `Preserves` is kept by negation and by the quantifiers.
+pub fn preserves_is_kept()
+    ensures { PreservesIsKept }
+{}
+
+/// A formula whose quantifiers stand outside has a decided core; so has every formula where excluded middle holds of truth.
+pub fn cores_are_decided()
+    ensures { CoresAreDecided }
 {}
 
 /// The value of a sum is the sum of the values, at every point.

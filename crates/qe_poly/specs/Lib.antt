@@ -9,3 +9,4 @@ pub mod Collected
 pub mod Primitive
 pub mod Equal
 pub mod Order
+pub mod Renamed

@@ -9,6 +9,7 @@ mod part;
 mod poly;
 mod primitive;
 mod product;
+mod rename;
 mod sum;
 mod tally;
 mod term;

@@ -1,0 +1,4 @@
+pub mod NormalForm
+pub mod Numbering
+pub mod Blocks
+pub mod Prenex
