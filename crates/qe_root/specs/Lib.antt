@@ -3,3 +3,5 @@ pub mod Value
 pub mod Shape
 pub mod SignForm
 pub mod Laws
+pub mod Holds
+pub mod Atoms

@@ -1,2 +1,5 @@
 pub mod Simplified
 pub mod Meaning
+pub mod Shape
+pub mod Alike
+pub mod Laws

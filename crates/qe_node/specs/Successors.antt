@@ -1,0 +1,103 @@
+-- The successors of a node: a variable is chosen and each of its candidates tried in turn; or why the node fails.
+use Rattle.std.specs.Prelude.{ℕ, suc, Bool, true, false, cond, List, [], ◌∷◌, map, Option, Some, None, Result, Ok, Err}
+use Rattle.qe_poly.specs.declared.monomial.Var.{Var}
+use Rattle.qe_poly.specs.declared.limit.PolyLimit.{PolyLimit}
+use Rattle.qe_form.specs.Formula.{Formula, True, False, And, no_more, more}
+use Rattle.qe_simp.specs.Simplified.{simplified}
+use Rattle.qe_root.specs.declared.stop.Stage.TheVariants as stage
+use Rattle.qe_root.specs.declared.stop.SubstStop.{SubstStop}
+use Rattle.qe_root.specs.declared.stop.SubstStop.TheVariants as met
+use Rattle.qe_points.specs.declared.candidate.Candidate.{Candidate}
+use Rattle.qe_points.specs.declared.candidate.Candidate.TheVariants.{Root, MinusInf}
+use Rattle.qe_points.specs.Choice.{choice}
+use Rattle.qe_points.specs.Candidates.{candidates}
+use Rattle.qe_points.specs.Guard.{guard, point_of, limit}
+use Rattle.qe_points.specs.Guarded.{own}
+use Rattle.qe_subst.specs.Substituted.{substituted}
+use Rattle.qe_subst.specs.Stop.{stop}
+use Rattle.qe_tree.specs.Expanded.{Expanded, Expansion, successors, failed}
+use Rattle.qe_node.specs.declared.stop.NodeStop.{NodeStop}
+use Rattle.qe_node.specs.declared.stop.NodeStop.TheVariants.{DegreeExcess, Limit, TooLarge}
+
+abbrev pub is_false : Formula → Bool
+is_false False = true
+is_false f = false
+
+abbrev pub is_true : Formula → Bool
+is_true True = true
+is_true f = false
+
+-- the number of the candidate's atom
+abbrev pub atom_of : Candidate → ℕ
+atom_of (Root f n which plus) = n
+atom_of MinusInf = 0
+
+-- the stop of a substitution as that of a node, at the candidate with this number; want of memory is none of these
+abbrev pub stop_at : ℕ → SubstStop → NodeStop
+stop_at n (met.At atom step polynomial) = Limit n atom step polynomial
+stop_at n met.TooLarge = TooLarge n
+stop_at n met.OutOfMemory = TooLarge n
+
+-- what becomes of a candidate: the node fails, or it gives no successor, or it gives one
+pub data Tried : Type 0 where
+  fails : NodeStop → Tried
+  skipped : Tried
+  gives : Formula → Tried
+
+module _ (x : ℕ) (f : Formula) where
+  -- the formula at the candidate's point
+  abbrev pub at_candidate : Candidate → Formula
+  at_candidate c = substituted x (point_of x c) (own c) f
+
+  -- the simplified And of the guard, which is simplified, and the formula at the point
+  abbrev pub successor : Candidate → Formula
+  successor c = simplified (And (more (simplified (guard x c)) (more (at_candidate c) no_more)))
+
+  -- a limit in the guard comes first; a False guard is skipped; then a limit in the substitution; a False successor is skipped
+  abbrev pub unless_false : Formula → Tried
+  unless_false g = cond (is_false g) skipped (gives g)
+
+  abbrev pub after_stop : ℕ → Candidate → Option SubstStop → Tried
+  after_stop n c (Some s) = fails (stop_at n s)
+  after_stop n c None = unless_false (successor c)
+
+  abbrev pub after_limit : ℕ → Candidate → Option PolyLimit → Tried
+  after_limit n c (Some polynomial) = fails (Limit n (atom_of c) stage.Guard polynomial)
+  after_limit n c None = cond (is_false (simplified (guard x c))) skipped (after_stop n c (stop x (point_of x c) (own c) f))
+
+  -- what becomes of the candidate with the number n
+  abbrev pub tried : ℕ → Candidate → Tried
+  tried n c = after_limit n c (limit x c)
+
+-- one more successor before others
+abbrev pub before : ℕ × Formula → Result (List (ℕ × Formula)) NodeStop → Result (List (ℕ × Formula)) NodeStop
+before s (Ok parts) = Ok (s ∷ parts)
+before s (Err e) = Err e
+
+-- what a candidate gives before what those after it give; nothing comes after True
+abbrev pub and_then : ℕ → Tried → Result (List (ℕ × Formula)) NodeStop → Result (List (ℕ × Formula)) NodeStop
+and_then n (fails s) others = Err s
+and_then n skipped others = others
+and_then n (gives g) others = cond (is_true g) (Ok ((n, g) ∷ [])) (before (n, g) others)
+
+module _ (x : ℕ) (f : Formula) where
+  -- the successors that candidates give, of which the first has the number n
+  abbrev pub given_by : ℕ → List Candidate → Result (List (ℕ × Formula)) NodeStop
+  given_by n [] = Ok []
+  given_by n (c ∷ cs) = and_then n (tried x f n c) (given_by (suc n) cs)
+
+abbrev pub at_variable : ℕ → Result (List (ℕ × Formula)) NodeStop → Expanded NodeStop
+at_variable x (Ok parts) = successors x parts
+at_variable x (Err s) = failed s
+
+-- where no variable can be chosen the node fails
+abbrev pub at_choice : Formula → Option Var → Expanded NodeStop
+at_choice f None = failed DegreeExcess
+at_choice f (Some v) = at_variable v.0 (given_by v.0 f 0 (candidates v.0 f))
+
+abbrev pub variables : List ℕ → List Var
+variables xs = map (λ x. record { 0 = x }) xs
+
+-- what becomes of the node with these variables and this formula
+abbrev pub expansion : Expansion NodeStop
+expansion xs f = at_choice f (choice f (variables xs))

@@ -1,0 +1,20 @@
+//! Nodes of the elimination of a block of quantifiers: a formula with the variables that are to be eliminated from it.
+//! Knows nothing of the tree of a block's nodes.
+#![tactic(auto)]
+
+mod growth;
+mod node;
+mod start;
+mod stop;
+
+pub use node::Node;
+pub use qe_form::{Form, Sequence, Var};
+pub use qe_poly::PolyLimit;
+pub use qe_root::Stage;
+pub use start::root;
+pub use std::alloc::AllocError as OutOfMemory;
+pub use stop::NodeStop;
+pub use growth::{ExpandStop, Successor, successors};
+
+/// Variables in order.
+pub type Vars = Sequence<Var>;

@@ -1,0 +1,110 @@
+-- The guard and the point of a candidate, by the coefficients of its polynomial a*x^2 + b*x + c.
+use Rattle.std.specs.Prelude.{ℕ, pos, Bool, false, nat_lt, eqb, cond, [], ◌∷◌, Option, Some, None}
+use Rattle.std.specs.Int.RustNames.{int_lt}
+use Rattle.qe_coef.specs.declared.Op.TheVariants.{Sub}
+use Rattle.qe_poly.specs.declared.limit.PolyLimit.{PolyLimit}
+use Rattle.qe_poly.specs.Polynomial.{Polynomial, constant, negative, difference, product}
+use Rattle.qe_poly.specs.Coefficients.{degree_in, coefficient_in}
+use Rattle.qe_poly.specs.Value.{scaled}
+use Rattle.qe_poly.specs.Limits.{sum_limit, product_limit, scale_limit}
+use Rattle.qe_form.specs.declared.signs.Signs.{Signs}
+use Rattle.qe_form.specs.Formula.{Formula, True, Atom, And, no_more, more}
+use Rattle.qe_root.specs.declared.point.RootPoint.{RootPoint}
+use Rattle.qe_root.specs.declared.point.Point.{Point}
+use Rattle.qe_root.specs.declared.point.Point.TheVariants as point
+use Rattle.qe_root.specs.Outcome.{first}
+use Rattle.qe_root.specs.SignForm.{equal, not_equal, at_least}
+use Rattle.qe_points.specs.declared.candidate.Which.{Which}
+use Rattle.qe_points.specs.declared.candidate.Which.TheVariants.{Linear, Upper, Lower}
+use Rattle.qe_points.specs.declared.candidate.Candidate.{Candidate}
+use Rattle.qe_points.specs.declared.candidate.Candidate.TheVariants.{Root, MinusInf}
+
+-- ---- the guard
+
+abbrev pub atomic : Polynomial → Signs → Formula
+atomic p signs = Atom (record { poly = p; signs = signs })
+
+abbrev pub both : Formula → Formula → Formula
+both f g = And (more f (more g no_more))
+
+-- d = b^2 - 4*(a*c)
+abbrev pub discriminant : ℕ → Polynomial → Polynomial
+discriminant x f =
+    let b = coefficient_in x 1 f in
+    difference (product b b) (scaled (pos 4) (product (coefficient_in x 2 f) (coefficient_in x 0 f)))
+
+-- b <> 0, and for degree two a = 0 besides
+abbrev pub linear_guard : ℕ → Polynomial → Formula
+linear_guard x f =
+    cond (eqb (degree_in x f) 2) (both (atomic (coefficient_in x 2 f) equal) (atomic (coefficient_in x 1 f) not_equal))
+    (atomic (coefficient_in x 1 f) not_equal)
+
+-- a <> 0 and d >= 0
+abbrev pub square_guard : ℕ → Polynomial → Formula
+square_guard x f = both (atomic (coefficient_in x 2 f) not_equal) (atomic (discriminant x f) at_least)
+
+-- where the root of this kind is one
+abbrev pub root_guard : ℕ → Polynomial → Which → Formula
+root_guard x f Linear = linear_guard x f
+root_guard x f Upper = square_guard x f
+root_guard x f Lower = square_guard x f
+
+abbrev pub guard : ℕ → Candidate → Formula
+guard x (Root f n which plus) = root_guard x f which
+guard x MinusInf = True
+
+-- ---- the point
+
+-- the polynomial is a negative number
+abbrev pub is_negative : Polynomial → Bool
+is_negative (([], c) ∷ []) = int_lt c (pos 0)
+is_negative p = false
+
+-- (p + q*sqrt(r))/s with p, q and s negated where s is a negative number
+abbrev pub turned : RootPoint → RootPoint
+turned k = cond (is_negative k.s) (record { p = negative k.p; q = negative k.q; r = k.r; s = negative k.s }) k
+
+-- the root of this kind: -c/b, (-b + sqrt(d))/(2*a) and (-b - sqrt(d))/(2*a)
+abbrev pub root : ℕ → Polynomial → Which → RootPoint
+root x f Linear = record { p = negative (coefficient_in x 0 f); q = []; r = []; s = coefficient_in x 1 f }
+root x f Upper = record {
+  p = negative (coefficient_in x 1 f);
+  q = constant (pos 1);
+  r = discriminant x f;
+  s = scaled (pos 2) (coefficient_in x 2 f);
+}
+root x f Lower = record {
+  p = negative (coefficient_in x 1 f);
+  q = negative (constant (pos 1));
+  r = discriminant x f;
+  s = scaled (pos 2) (coefficient_in x 2 f);
+}
+
+-- the root itself, or just above it
+abbrev pub at_root : Bool → RootPoint → Point
+at_root plus k = cond plus (point.RootPlus k) (point.Root k)
+
+abbrev pub point_of : ℕ → Candidate → Point
+point_of x (Root f n which plus) = at_root plus (turned (root x f which))
+point_of x MinusInf = point.MinusInf
+
+-- ---- the first limit, in the order b*b, a*c, 4*(a*c), d, 2*a
+
+abbrev pub square_limit : ℕ → Polynomial → Option PolyLimit
+square_limit x f =
+    let a = coefficient_in x 2 f in
+    let b = coefficient_in x 1 f in
+    let c = coefficient_in x 0 f in
+    first (
+        product_limit b b ∷ product_limit a c ∷ scale_limit (pos 4) (product a c)
+        ∷ sum_limit Sub (product b b) (scaled (pos 4) (product a c)) ∷ scale_limit (pos 2) a ∷ [])
+
+-- of degree one nothing is multiplied
+abbrev pub root_limit : ℕ → Polynomial → Which → Option PolyLimit
+root_limit x f Linear = None
+root_limit x f Upper = square_limit x f
+root_limit x f Lower = square_limit x f
+
+abbrev pub limit : ℕ → Candidate → Option PolyLimit
+limit x (Root f n which plus) = root_limit x f which
+limit x MinusInf = None

@@ -1,0 +1,4 @@
+pub mod Fault
+pub mod Substituted
+pub mod Stop
+pub mod Left

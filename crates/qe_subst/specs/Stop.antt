@@ -1,0 +1,35 @@
+-- Why a substitution gives no formula.
+use Rattle.std.specs.Prelude.{ℕ, ◌+◌, ◌-◌, ◌^◌, min, cond, ltb, List, [], ◌∷◌, Option, None, Some, Result, Ok, Err, ◌≡◌}
+use Rattle.qe_poly.specs.Polynomial.{Polynomial}
+use Rattle.qe_form.specs.declared.form.Atom as atom
+use Rattle.qe_form.specs.Formula.{Formula}
+use Rattle.qe_form.specs.Measures.{count}
+use Rattle.qe_root.specs.declared.point.Point.{Point}
+use Rattle.qe_root.specs.declared.stop.SubstStop.{SubstStop}
+use Rattle.qe_root.specs.declared.stop.SubstStop.TheVariants.{At, TooLarge, OutOfMemory}
+use Rattle.qe_root.specs.Atoms.{atoms}
+use Rattle.qe_subst.specs.Substituted.{substituted, fault_of}
+
+-- the next number, up to the greatest of 64 bits, which no formula in a memory reaches
+abbrev pub next : ℕ → ℕ
+next n = min (2 ^ 64 - 1) (n + 1)
+
+module _ (x : ℕ) (point : Point) (own : Option Polynomial) where
+  -- the first limit in the order of the atoms, of which the first has number n
+  abbrev pub first_limit : ℕ → List atom.Atom → Option SubstStop
+  first_limit n [] = None
+  first_limit n (a ∷ rest) = elim (fault_of x point own a) [ Some fault ↦ Some (At n fault.stage fault.limit) | None ↦ first_limit (next n) rest ]
+
+  -- the formula would have more than 65,536 atoms, constants counted
+  abbrev pub size_limit : Formula → Option SubstStop
+  size_limit f = cond (ltb 65536 (count (substituted x point own f))) (Some TooLarge) None
+
+  -- a limit at an atom comes first
+  abbrev pub stop : Formula → Option SubstStop
+  stop f = elim (first_limit 0 (atoms f)) [ Some met ↦ Some met | None ↦ size_limit f ]
+
+-- the stop where there is one, and else a result of which P holds; want of memory may come in place of either
+abbrev pub IsOutcome : {A : Type 0} → Option SubstStop → (A → Type 0) → Result A SubstStop → Type 0
+IsOutcome stop P (Ok a) = (stop ≡ None) × P a
+IsOutcome stop P (Err OutOfMemory) = Unit {0}
+IsOutcome stop P (Err met) = stop ≡ Some met

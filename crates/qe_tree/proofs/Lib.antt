@@ -1,0 +1,9 @@
+pub mod Occurs
+pub mod SameNumbers
+pub mod Quantified
+pub mod Growth
+pub mod Walks
+pub mod FirstPlaces
+pub mod Leaves
+pub mod Stands
+pub mod Blocks

@@ -1,0 +1,5 @@
+use Rattle.qe_tree.proofs.Occurs.{occurs_is_has}
+use Rattle.qe_tree.proofs.laws.occurs_is_has.Goals as goal
+
+pub returns : goal.returns
+returns c x f = occurs_is_has x f

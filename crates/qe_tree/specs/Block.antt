@@ -1,0 +1,84 @@
+-- The result of blocks of quantifiers over a matrix.
+use Rattle.std.specs.Prelude.{ℕ, suc, ◌≡◌, ◌≤◌, ◌<◌, ◌⊎◌, IsTrue, List, [], ◌∷◌, length}
+use Rattle.qe_form.specs.Formula.{Formula}
+use Rattle.qe_form.specs.Negation.{negated}
+use Rattle.qe_simp.specs.Simplified.{simplified}
+use Rattle.qe_tree.specs.Variables.{under_ex, under_all}
+use Rattle.qe_tree.specs.Expanded.{Expansion}
+use Rattle.qe_tree.specs.Tree.{Step, Inner, form, node, nodes, inner, has_true_leaf}
+
+pub data Quantifier : Type 0 where
+  exists : Quantifier
+  for_all : Quantifier
+
+-- quantifiers of one kind over variables, the outermost first
+pub record Block : Type 0 where
+  pub kind : Quantifier
+  pub vars : List ℕ
+
+-- blocks over a matrix, the outermost first
+abbrev pub quantified_by : Quantifier → List ℕ → Formula → Formula
+quantified_by exists vars f = under_ex vars f
+quantified_by for_all vars f = under_all vars f
+
+abbrev pub prenex : List Block → Formula → Formula
+prenex [] m = m
+prenex (b ∷ bs) m = quantified_by b.kind b.vars (prenex bs m)
+
+-- the formula at the root of a block's tree: the simplified matrix, negated first for `all`
+abbrev pub root : Quantifier → Formula → Formula
+root exists m = simplified m
+root for_all m = simplified (negated m)
+
+-- what the block gives where its tree gives this formula
+abbrev pub closed : Quantifier → Formula → Formula
+closed exists g = g
+closed for_all g = simplified (negated g)
+
+-- a formula without the blocks' variables; or the number of the block that stops, the steps to its first node that fails, and why
+pub data Eliminated (F : Type 0) : Type 0 where
+  given : Formula → Eliminated F
+  stopped : ℕ → List Step → F → Eliminated F
+
+module _ {F : Type 0} (expand : Expansion F) where
+  abbrev pub of_inner : Quantifier → ℕ → Inner F → Eliminated F
+  of_inner kind n (form g) = given (closed kind g)
+  of_inner kind n (node path s) = stopped n path s
+
+  -- the block with this number, over what the blocks further in give
+  abbrev pub block_over : Block → ℕ → Eliminated F → Eliminated F
+  block_over b n (given m) = of_inner b.kind n (inner expand b.vars (root b.kind m))
+  block_over b n (stopped k path s) = stopped k path s
+
+  -- blocks over a matrix, eliminated from the innermost; the outermost has this number
+  abbrev pub eliminated_from : ℕ → List Block → Formula → Eliminated F
+  eliminated_from n [] m = given m
+  eliminated_from n (b ∷ bs) m = block_over b n (eliminated_from (suc n) bs m)
+
+  -- the result of a prenex form; without blocks it is the simplified matrix
+  abbrev pub eliminated : List Block → Formula → Eliminated F
+  eliminated [] m = given (simplified m)
+  eliminated (b ∷ bs) m = eliminated_from 1 (b ∷ bs) m
+
+  -- the distinct nodes of the block's tree over this matrix
+  abbrev pub count_of : Block → Formula → ℕ
+  count_of b m = length (nodes expand b.vars (root b.kind m))
+
+  -- P of each block and its matrix, where the blocks further in give one
+  abbrev pub IfGiven : (Formula → Type 0) → Eliminated F → Type 0
+  IfGiven P (given m) = P m
+  IfGiven P (stopped n path s) = Unit {0}
+
+  abbrev pub EachBlock : (Block → Formula → Type 0) → ℕ → List Block → Formula → Type 0
+  EachBlock P n [] m = Unit {0}
+  EachBlock P n (b ∷ bs) m = EachBlock P (suc n) bs m × IfGiven (P b) (eliminated_from (suc n) bs m)
+
+  -- the block's tree has a leaf that is True, or no more distinct nodes than the limit
+  abbrev pub Fits : ℕ → Block → Formula → Type 0
+  Fits limit b m = IsTrue (has_true_leaf expand b.vars (nodes expand b.vars (root b.kind m))) ⊎ (count_of b m ≤ limit)
+
+  -- the block with the number k has more distinct nodes than the limit, and the blocks further in give its matrix
+  abbrev pub Exceeds : ℕ → ℕ → ℕ → List Block → Formula → Type 0
+  Exceeds limit k n [] m = ⊥
+  Exceeds limit k n (b ∷ bs) m =
+      ((k ≡ n) × ((g : Formula) × ((eliminated_from (suc n) bs m ≡ given g) × (limit < count_of b g)))) ⊎ Exceeds limit k (suc n) bs m
