@@ -1,0 +1,3 @@
+pub mod Remaining
+pub mod Grown
+pub mod Canonical

@@ -9,23 +9,24 @@ use Rattle.qe_node.specs.declared.growth.ExpandStop.{ExpandStop}
 use Rattle.qe_node.specs.declared.growth.ExpandStop.TheVariants as stop
 use Rattle.qe_node.specs.Node.{Sight}
 
--- the node of a formula that comes up below another
-abbrev pub node_below : Sight → Formula → Sight
-node_below n g = record { vars = remaining n.vars g; form = g }
+-- the successors of a node with these variables, each with its number: in its formula those of the variables are left that occur there
+abbrev pub below : List ℕ → List (ℕ × Formula) → List (ℕ × Sight)
+below vars parts = map (λ s. (s.0, record { vars = remaining vars s.1; form = s.1 })) parts
 
--- a successor's number and node, as they come of its number and formula
-abbrev pub successors_below : Sight → List (ℕ × Formula) → List (ℕ × Sight)
-successors_below n parts = map (λ s. (s.0, node_below n s.1)) parts
-
-abbrev pub shown : List Successor → List (ℕ × Sight)
-shown made = map (λ s. (s.point, s.node)) made
+abbrev pub nodes_below : List ℕ → Result (List (ℕ × Formula)) NodeStop → Result (List (ℕ × Sight)) NodeStop
+nodes_below vars (Ok parts) = Ok (below vars parts)
+nodes_below vars (Err s) = Err s
 
 -- what becomes of a node, with the nodes of its successors
 abbrev pub outcome : Sight → Expanded NodeStop → Result (List (ℕ × Sight)) NodeStop
-outcome n (successors x parts) = Ok (successors_below n parts)
+outcome n (successors x parts) = Ok (below n.vars parts)
 outcome n (failed s) = Err s
 
--- that, as `shown` sees the result; want of memory may come in place of either
+-- the numbers and the nodes of successors
+abbrev pub shown : List Successor → List (ℕ × Sight)
+shown made = map (λ s. (s.point, s.node)) made
+
+-- what becomes of the node, as `shown` sees the result; want of memory may come in place of it
 abbrev pub IsAnswer : {A : Type 0} → (A → List (ℕ × Sight)) → Result (List (ℕ × Sight)) NodeStop → Result A ExpandStop → Type 0
 IsAnswer shown want (Ok a) = want ≡ Ok (shown a)
 IsAnswer shown want (Err (stop.Failed s)) = want ≡ Err s

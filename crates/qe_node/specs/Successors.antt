@@ -2,8 +2,10 @@
 use Rattle.std.specs.Prelude.{ℕ, suc, Bool, true, false, cond, List, [], ◌∷◌, map, Option, Some, None, Result, Ok, Err}
 use Rattle.qe_poly.specs.declared.monomial.Var.{Var}
 use Rattle.qe_poly.specs.declared.limit.PolyLimit.{PolyLimit}
+use Rattle.qe_poly.specs.Polynomial.{Polynomial}
 use Rattle.qe_form.specs.Formula.{Formula, True, False, And, no_more, more}
 use Rattle.qe_simp.specs.Simplified.{simplified}
+use Rattle.qe_root.specs.declared.point.Point.{Point}
 use Rattle.qe_root.specs.declared.stop.Stage.TheVariants as stage
 use Rattle.qe_root.specs.declared.stop.SubstStop.{SubstStop}
 use Rattle.qe_root.specs.declared.stop.SubstStop.TheVariants as met
@@ -44,26 +46,27 @@ pub data Tried : Type 0 where
   skipped : Tried
   gives : Formula → Tried
 
+-- a False successor is skipped
+abbrev pub unless_false : Formula → Tried
+unless_false g = cond (is_false g) skipped (gives g)
+
+-- a limit in the substitution comes first
+abbrev pub after_stop : ℕ → Formula → Option SubstStop → Tried
+after_stop n g (Some s) = fails (stop_at n s)
+after_stop n g None = unless_false g
+
 module _ (x : ℕ) (f : Formula) where
-  -- the formula at the candidate's point
-  abbrev pub at_candidate : Candidate → Formula
-  at_candidate c = substituted x (point_of x c) (own c) f
+  -- the simplified And of a guard and of the formula at its point
+  abbrev pub joined : (guard : Formula) → Point → Option Polynomial → Formula
+  joined guard point own = simplified (And (more guard (more (substituted x point own f) no_more)))
 
-  -- the simplified And of the guard, which is simplified, and the formula at the point
-  abbrev pub successor : Candidate → Formula
-  successor c = simplified (And (more (simplified (guard x c)) (more (at_candidate c) no_more)))
+  abbrev pub put_in : ℕ → (guard : Formula) → Point → Option Polynomial → Tried
+  put_in n guard point own = after_stop n (joined guard point own) (stop x point own f)
 
-  -- a limit in the guard comes first; a False guard is skipped; then a limit in the substitution; a False successor is skipped
-  abbrev pub unless_false : Formula → Tried
-  unless_false g = cond (is_false g) skipped (gives g)
-
-  abbrev pub after_stop : ℕ → Candidate → Option SubstStop → Tried
-  after_stop n c (Some s) = fails (stop_at n s)
-  after_stop n c None = unless_false (successor c)
-
+  -- a limit in the guard comes first; a False guard is skipped
   abbrev pub after_limit : ℕ → Candidate → Option PolyLimit → Tried
   after_limit n c (Some polynomial) = fails (Limit n (atom_of c) stage.Guard polynomial)
-  after_limit n c None = cond (is_false (simplified (guard x c))) skipped (after_stop n c (stop x (point_of x c) (own c) f))
+  after_limit n c None = cond (is_false (simplified (guard x c))) skipped (put_in n (simplified (guard x c)) (point_of x c) (own c))
 
   -- what becomes of the candidate with the number n
   abbrev pub tried : ℕ → Candidate → Tried

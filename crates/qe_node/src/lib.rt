@@ -6,6 +6,7 @@ mod growth;
 mod node;
 mod start;
 mod stop;
+mod trial;
 
 pub use node::Node;
 pub use qe_form::{Form, Sequence, Var};

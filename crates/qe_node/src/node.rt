@@ -1,6 +1,13 @@
 //! Nodes.
 
-use crate::{Form, Vars};
+ghost use Rattle.std.specs.Prelude.{◌≡◌, IfOk, eqb, map};
+ghost use Rattle.std.specs.Cmp.{partial_equiv_from_equiv};
+ghost use Rattle.qe_node.specs.Equal.{same_sight, same_sight_equiv, sight_fed, sight_fed_alike};
+ghost use lib.Pointwise.{pointwise};
+
+use crate::{Form, OutOfMemory, Sequence, Var, Vars};
+use std::alloc::Global;
+use std::hash::{Hash, Hasher};
 use std::marker::Model;
 
 /// A formula with the variables of a block that are to be eliminated from it, in the order of the block. It is plain, with sets
@@ -24,4 +31,48 @@ impl Model for Node {
     ghost view = { λ n. record { vars = map (λ v. v.0) n.vars; form = tree n.form } };
 
     ghost invariant = { λ n. IsNode (record { vars = map (λ v. v.0) n.vars; form = tree n.form }) };
+}
+
+/// Whether the variables are the same, in the same order.
+fn same_vars(left: &[Var], right: &[Var]) -> bool
+    ensures { result ≡ pointwise eqb (map (λ v. v.0) left.now) (map (λ v. v.0) right.now) }
+{
+    left == right
+}
+
+impl PartialEq for Node {
+    ghost eq = { same_sight };
+
+    ghost laws = { partial_equiv_from_equiv same_sight_equiv };
+
+    fn eq(&self, other: &Node) -> bool {
+        same_vars(self.vars.items(), other.vars.items()) && self.form == other.form
+    }
+}
+
+impl Eq for Node {
+    ghost laws = { same_sight_equiv };
+}
+
+impl Hash for Node {
+    ghost hash_input = { sight_fed };
+
+    ghost respects_eq = { λ m n same. sight_fed_alike m n same };
+
+    fn hash<H: Hasher>(&self, state: &mut H) {
+        self.vars.items().hash(state);
+        self.form.hash(state);
+    }
+}
+
+impl Node {
+    /// The same node in memory of its own. `Err` for want of memory alone.
+    pub fn copy(&self, alloc: Global) -> Result<Node, OutOfMemory>
+        ensures { IfOk result (λ n. n ≡ self.now) }
+    {
+        Ok(Node {
+            vars: Sequence::from_vec(self.vars.items().to_vec(alloc)?),
+            form: self.form.copy(alloc)?,
+        })
+    }
 }

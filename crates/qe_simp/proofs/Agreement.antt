@@ -19,7 +19,8 @@ use Rattle.qe_form.specs.OrderLaws.{formula_same}
 use Rattle.qe_simp.specs.declared.connective.Connective.{Connective}
 use Rattle.qe_simp.specs.declared.connective.Connective.TheVariants.{Conjunction, Disjunction}
 use Rattle.qe_simp.specs.Simplified.{neutral, deciding, connected, joined_signs, listed, parts_in, as_one, merged, in_order, decides, closed, decided, joint, simplified, simplified_each}
-use Rattle.qe_simp.specs.Meaning.{AtomsAgree, EachAtomsAgree}
+use Rattle.qe_simp.specs.Meaning.{IsKnown}
+use Rattle.qe_simp.specs.Shape.{EachAtom, EachAtomOf}
 use Rattle.qe_simp.proofs.Atoms.{never_has, always_has}
 use Rattle.qe_simp.proofs.Parts.{Each, Any, steps, Each-steps, Any-steps, steps-Any}
 
@@ -200,10 +201,10 @@ module _ (p : Point) where
 
   module _ (valid : IsPoint p) where
     mutual
-      pub agrees : (f : Formula) → AtomsAgree f → (b : Bool) → Is f b p ↔ Is (simplified f) b p
+      pub agrees : (f : Formula) → EachAtom IsKnown f → (b : Bool) → Is f b p ↔ Is (simplified f) b p
       agrees True atoms b = ((λ h. h), (λ h. h))
       agrees False atoms b = ((λ h. h), (λ h. h))
-      agrees (Atom a) atoms b = atoms p valid b
+      agrees (Atom a) atoms b = atoms.0 p valid b
       agrees (And fs) atoms true = let parts = agree_each fs atoms true in let whole = (joint_is Conjunction (simplified_each fs)).0 in ((λ h. whole.1 (parts.0 h)), (λ h. parts.1 (whole.0 h)))
       agrees (And fs) atoms false = let parts = agree_some fs atoms false in let whole = (joint_is Conjunction (simplified_each fs)).1 in ((λ h. whole.1 (parts.0 h)), (λ h. parts.1 (whole.0 h)))
       agrees (Or fs) atoms true = let parts = agree_some fs atoms true in let whole = (joint_is Disjunction (simplified_each fs)).1 in ((λ h. whole.1 (parts.0 h)), (λ h. parts.1 (whole.0 h)))
@@ -214,13 +215,13 @@ module _ (p : Point) where
       agrees (Ex x f) atoms b = ((λ h. h), (λ h. h))
       agrees (All x f) atoms b = ((λ h. h), (λ h. h))
 
-      agree_each : (fs : Formulas) → EachAtomsAgree fs → (b : Bool) → EachIs fs b p ↔ Each (λ g. Is g b p) (simplified_each fs)
+      agree_each : (fs : Formulas) → EachAtomOf IsKnown fs → (b : Bool) → EachIs fs b p ↔ Each (λ g. Is g b p) (simplified_each fs)
       agree_each no_more atoms b = ((λ h. h), (λ h. h))
       agree_each (more f fs) atoms b =
           let first = agrees f atoms.0 b in
           let rest = agree_each fs atoms.1 b in ((λ h. (first.0 h.0, rest.0 h.1)), (λ h. (first.1 h.0, rest.1 h.1)))
 
-      agree_some : (fs : Formulas) → EachAtomsAgree fs → (b : Bool) → SomeIs fs b p ↔ Any (λ g. Is g b p) (simplified_each fs)
+      agree_some : (fs : Formulas) → EachAtomOf IsKnown fs → (b : Bool) → SomeIs fs b p ↔ Any (λ g. Is g b p) (simplified_each fs)
       agree_some no_more atoms b = ((λ h. h), (λ h. h))
       agree_some (more f fs) atoms b =
           let first = agrees f atoms.0 b in

@@ -8,3 +8,10 @@ pub mod Merging
 pub mod Sorting
 pub mod Kept
 pub mod Gathered
+pub mod Keys
+pub mod Contents
+pub mod Deciding
+pub mod Primitive
+pub mod Stable
+pub mod Shapes
+pub mod Alikes

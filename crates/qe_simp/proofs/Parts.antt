@@ -24,7 +24,7 @@ steps k fs = merged k (in_order (flat_map (parts_in k) fs))
 -- ---- each
 
 module _ (P : Formula → Type 0) where
-  Each-append : (fs gs : List Formula) → Each P (fs ++ gs) ↔ (Each P fs × Each P gs)
+  pub Each-append : (fs gs : List Formula) → Each P (fs ++ gs) ↔ (Each P fs × Each P gs)
   Each-append [] gs = ((λ h. (tt, h)), (λ h. h.1))
   Each-append (f ∷ fs) gs = let rest = Each-append fs gs in ((λ h. let w = rest.0 h.1 in ((h.0, w.0), w.1)), (λ h. (h.0.0, rest.1 (h.0.1, h.1))))
 
@@ -35,7 +35,7 @@ module _ (P : Formula → Type 0) where
     | false ↦ ((λ h. h), (λ h. h))
   ]
 
-  Each-in_order : (fs : List Formula) → Each P (in_order fs) ↔ Each P fs
+  pub Each-in_order : (fs : List Formula) → Each P (in_order fs) ↔ Each P fs
   Each-in_order [] = ((λ h. h), (λ h. h))
   Each-in_order (f ∷ fs) =
       let first = Each-insert f (in_order fs) in
@@ -70,6 +70,28 @@ module _ (P : Formula → Type 0) where
           let a = Each-merged (in_order flat) in
           let b = Each-in_order flat in
           let c = Each-flat fs in ((λ h. c.0 (b.0 (a.0 h))), (λ h. a.1 (b.1 (c.1 h))))
+
+-- ---- each, on to the merged parts
+
+module _ (P Q : Formula → Type 0) (k : Connective) (own : (f : Formula) → Q f → Each P (parts_in k f)) (one : (f g h : Formula) → as_one k f g ≡ Some h → P f → P g → P h) where
+  merged_from-Each : (f : Formula) (gs : List Formula) → P f → Each P gs → Each P (merged_from k f gs)
+  merged_from-Each f [] first rest = (first, tt)
+  merged_from-Each f (g ∷ gs) first rest = by_one (λ h. merged_from-Each h gs) (as_one k f g) refl
+    where
+      by_one : ((h : Formula) → P h → Each P gs → Each P (merged_from k h gs)) → (o : Option Formula) → as_one k f g ≡ o → Each P (one_or_two o (λ h. merged_from k h gs) (f ∷ merged_from k g gs))
+      by_one again None is = (first, again g rest.0 rest.1)
+      by_one again (Some h) is = again h (one f g h is first rest.0) rest.1
+
+  merged-Each : (fs : List Formula) → Each P fs → Each P (merged k fs)
+  merged-Each [] each = tt
+  merged-Each (f ∷ fs) each = merged_from-Each f fs each.0 each.1
+
+  pub flat-Each : (fs : List Formula) → Each Q fs → Each P (flat_map (parts_in k) fs)
+  flat-Each [] each = tt
+  flat-Each (f ∷ fs) each = (Each-append P (parts_in k f) (flat_map (parts_in k) fs)).1 (own f each.0, flat-Each fs each.1)
+
+  pub steps-Each : (fs : List Formula) → Each Q fs → Each P (steps k fs)
+  steps-Each fs each = merged-Each (in_order (flat_map (parts_in k) fs)) ((Each-in_order P (flat_map (parts_in k) fs)).1 (flat-Each fs each))
 
 -- ---- any, from the merged parts back
 

@@ -20,7 +20,7 @@ use Rattle.qe_simp.specs.Simplified.{truth, as_number, on_number, simplified_ato
 use Rattle.qe_simp.proofs.Parts.{Any, steps, Any-steps, sum_of, sum-steps}
 
 -- two parts that are one are the first again, or an atom on the first's polynomial
-one_is : (k : Connective) (f g h : Formula) → as_one k f g ≡ Some h → (h ≡ f) ⊎ ((a : atom.Atom) × (b : atom.Atom) × (f ≡ Atom a) × (h ≡ Atom (record { poly = a.poly; signs = joined_signs k a.signs b.signs })))
+pub one_is : (k : Connective) (f g h : Formula) → as_one k f g ≡ Some h → (h ≡ f) ⊎ ((a : atom.Atom) × (b : atom.Atom) × (f ≡ Atom a) × (h ≡ Atom (record { poly = a.poly; signs = joined_signs k a.signs b.signs })))
 one_is k (Atom a) (Atom b) h is = by_test (poly_eq a.poly b.poly) is
   where
     by_test : (t : Bool) → cond t (Some (Atom (record { poly = a.poly; signs = joined_signs k a.signs b.signs }))) None ≡ Some h

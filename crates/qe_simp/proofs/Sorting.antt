@@ -16,16 +16,16 @@ use Rattle.qe_form.specs.OrderLaws.{formula_total, formula_same}
 use Rattle.qe_simp.specs.Simplified.{insert, in_order}
 
 -- f is not after g
-abbrev IsUpTo : Formula → Formula → Type 0
+abbrev pub IsUpTo : Formula → Formula → Type 0
 IsUpTo f g = is_gt (formula_cmp f g) ≡ false
 
 -- f is not after the first
-abbrev IsUpToFirst : Formula → List Formula → Type 0
+abbrev pub IsUpToFirst : Formula → List Formula → Type 0
 IsUpToFirst f [] = Unit {0}
 IsUpToFirst f (g ∷ gs) = IsUpTo f g
 
 -- no formula is after the next
-abbrev Rising : List Formula → Type 0
+abbrev pub Rising : List Formula → Type 0
 Rising [] = Unit {0}
 Rising (f ∷ fs) = IsUpToFirst f fs × Rising fs
 
@@ -79,7 +79,7 @@ Rising-insert f (g ∷ gs) rising = by_test (Rising-insert f gs) (is_gt (formula
     by_test again true after = (first-insert g f gs (after_is f g after) rising.0, again rising.1)
     by_test again false up = (up, rising)
 
-Rising-in_order : (fs : List Formula) → Rising (in_order fs)
+pub Rising-in_order : (fs : List Formula) → Rising (in_order fs)
 Rising-in_order [] = tt
 Rising-in_order (f ∷ fs) = Rising-insert f (in_order fs) (Rising-in_order fs)
 

@@ -3,7 +3,8 @@ use Rattle.std.specs.Prelude.{ℕ, ◌≤◌, max, ◌≡◌, true, false, Some,
 use Rattle.qe_ring.specs.Sign.{Sign, Minus, Zero, Plus}
 use Rattle.qe_tower.specs.Point.{Point, IsPoint}
 use Rattle.qe_form.specs.declared.signs.Signs.{Signs}
-use Rattle.qe_form.specs.Formula.{Formula, Formulas, True, False, Atom, And, Or, Not, Implies, Iff, Ex, All, no_more, more}
+use Rattle.qe_form.specs.declared.form.Atom as atom
+use Rattle.qe_form.specs.Formula.{Formula, Atom}
 use Rattle.qe_form.specs.Tree.{tree}
 use Rattle.qe_form.specs.Same.{IsFree, Agree}
 use Rattle.qe_form.specs.Measures.{count}
@@ -11,6 +12,7 @@ use Rattle.qe_simp.specs.declared.connective.Connective.{Connective}
 use Rattle.qe_simp.specs.declared.merge.Joined as merge
 use Rattle.qe_simp.specs.declared.merge.Joined.TheVariants.{One, Two}
 use Rattle.qe_simp.specs.Simplified.{simplified_atom, as_one}
+use Rattle.qe_simp.specs.Shape.{IsCanonical}
 
 -- g is true and false at the points where f is so, has no further free variable, and has at most as many atoms and constants, or one
 pub record Keeps (f g : Formula) : Type 0 where
@@ -24,23 +26,9 @@ AgreesEverywhere f g = (p : Point) → IsPoint p → Agree f g p
 
 -- ---- what the code keeps
 
--- each atom agrees with its simplified form
-abbrev mutual
-  pub AtomsAgree : Formula → Type 0
-  AtomsAgree True = Unit {0}
-  AtomsAgree False = Unit {0}
-  AtomsAgree (Atom a) = AgreesEverywhere (Atom a) (simplified_atom a)
-  AtomsAgree (And fs) = EachAtomsAgree fs
-  AtomsAgree (Or fs) = EachAtomsAgree fs
-  AtomsAgree (Not f) = Unit {0}
-  AtomsAgree (Implies f g) = Unit {0}
-  AtomsAgree (Iff f g) = Unit {0}
-  AtomsAgree (Ex x f) = Unit {0}
-  AtomsAgree (All x f) = Unit {0}
-
-  pub EachAtomsAgree : Formulas → Type 0
-  EachAtomsAgree no_more = Unit {0}
-  EachAtomsAgree (more f fs) = AtomsAgree f × EachAtomsAgree fs
+-- the atom agrees with its simplified form, and its polynomial is canonical
+abbrev pub IsKnown : atom.Atom → Type 0
+IsKnown a = AgreesEverywhere (Atom a) (simplified_atom a) × IsCanonical a
 
 -- the set of one sign
 abbrev pub only : Sign → Signs

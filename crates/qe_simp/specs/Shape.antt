@@ -1,6 +1,6 @@
 -- What simplified formulas are like.
 use Rattle.std.specs.Prelude.{ℤ, Bool, false, ◌≡◌, ◌≢◌}
-use Rattle.qe_poly.specs.Polynomial.{IsPolynomial, constant}
+use Rattle.qe_poly.specs.Polynomial.{Polynomial, IsPolynomial, constant}
 use Rattle.qe_poly.specs.Primitive.{primitive, leads_negative}
 use Rattle.qe_form.specs.declared.form.Atom as atom
 use Rattle.qe_form.specs.Signs.{IsProper}
@@ -8,12 +8,16 @@ use Rattle.qe_form.specs.Formula.{Formula, Formulas, True, False, Atom, And, Or,
 use Rattle.qe_form.specs.Plain.{IsPlainWith}
 use Rattle.qe_simp.specs.Simplified.{simplified}
 
--- an atom as simplifying leaves it: its polynomial is primitive and no number, and it allows some sign but not every sign
+-- a canonical polynomial that is no number and its own primitive polynomial, with a positive leading coefficient
+pub record IsPrimitive (p : Polynomial) : Type 0 where
+  pub canonical : IsPolynomial p
+  pub no_number : (c : ℤ) → p ≢ constant c
+  pub itself : primitive p ≡ p
+  pub positive : leads_negative p ≡ false
+
+-- an atom as simplifying leaves it: on a primitive polynomial, with some sign but not every sign
 pub record IsSimple (a : atom.Atom) : Type 0 where
-  pub canonical : IsPolynomial a.poly
-  pub no_number : (c : ℤ) → a.poly ≢ constant c
-  pub is_primitive : primitive a.poly ≡ a.poly
-  pub positive : leads_negative a.poly ≡ false
+  pub primitive : IsPrimitive a.poly
   pub proper : IsProper a.signs
 
 -- a plain formula of such atoms that simplifying does not change

@@ -7,6 +7,7 @@ ghost use Rattle.qe_form.specs.Tree.{tree};
 ghost use Rattle.qe_form.specs.Signs.{mirror};
 ghost use Rattle.qe_form.specs.Truth.{has_sign};
 ghost use Rattle.qe_simp.specs.Meaning.{AgreesEverywhere, only};
+ghost use Rattle.qe_simp.specs.Shape.{IsCanonical};
 ghost use Rattle.qe_simp.specs.Simplified.{truth, simplified_atom};
 
 use crate::OutOfMemory;
@@ -54,14 +55,16 @@ fn mirrored_if(is_negated: bool, signs: Signs) -> Signs
 pub fn simplify_atom(alloc: Global, atom: Atom) -> Result<Form, OutOfMemory>
     ensures exact { IfOk result (λ f. tree f ≡ simplified_atom atom) }
     ensures agree { IfOk result (λ _. AgreesEverywhere (atomic atom) (simplified_atom atom)) }
+    ensures canonical { IfOk result (λ _. IsCanonical atom) }
 {
+    let number = atom.poly.as_constant();
     if atom.signs.bits() == 0 {
         return Ok(Form::False);
     }
     if atom.signs.bits() == ALL_SIGNS {
         return Ok(Form::True);
     }
-    if let Some(value) = atom.poly.as_constant() {
+    if let Some(value) = number {
         return Ok(truth(has_sign_of(atom.signs, value)));
     }
     let (poly, is_negated) = atom.poly.primitive(alloc)?;

@@ -3,9 +3,9 @@
 ghost use Rattle.std.specs.Prelude.{◌≡◌, map, IfOk};
 ghost use Rattle.std.specs.List.{flat_map};
 ghost use Rattle.qe_form.specs.Tree.{tree, trees};
-ghost use Rattle.qe_simp.specs.Meaning.{Keeps, AtomsAgree, EachAtomsAgree};
+ghost use Rattle.qe_simp.specs.Meaning.{Keeps, IsKnown};
 ghost use Rattle.qe_form.specs.Plain.{IsPlain};
-ghost use Rattle.qe_simp.specs.Shape.{IsSimplified};
+ghost use Rattle.qe_simp.specs.Shape.{IsSimplified, EachAtom, EachAtomOf};
 ghost use Rattle.qe_simp.specs.Simplified.{closed, decided, joint, merged, in_order, parts_in, simplified, simplified_each};
 
 use crate::OutOfMemory;
@@ -56,7 +56,7 @@ fn join_parts(
 #[cycle(simplify)]
 fn simplified_form(alloc: Global, form: Form) -> Result<Form, OutOfMemory>
     ensures exact { IfOk result (λ f. tree f ≡ simplified (tree form)) }
-    ensures atoms { IfOk result (λ _. AtomsAgree (tree form)) }
+    ensures atoms { IfOk result (λ _. EachAtom IsKnown (tree form)) }
 {
     match form {
         Form::Atom(atom) => simplify_atom(alloc, atom),
@@ -82,7 +82,7 @@ fn simplified_form(alloc: Global, form: Form) -> Result<Form, OutOfMemory>
 #[cycle(simplify)]
 fn gather(alloc: Global, forms: Forms, connective: Connective) -> Result<Vec<Form>, OutOfMemory>
     ensures exact { IfOk result (λ v. map tree v.items ≡ flat_map (parts_in connective) (simplified_each (trees forms))) }
-    ensures atoms { IfOk result (λ _. EachAtomsAgree (trees forms)) }
+    ensures atoms { IfOk result (λ _. EachAtomOf IsKnown (trees forms)) }
 {
     let mut parts = Vec::new(alloc);
     for form in forms.into_vec() {
@@ -103,8 +103,7 @@ pub fn simplify(alloc: Global, form: Form) -> Result<Form, OutOfMemory>
     ensures again { IfOk result (λ f. simplified (tree f) ≡ tree f) }
     ensures plain { IfOk result (λ f. IsPlain (tree form) → IsSimplified (tree f)) }
 {
-    let _made = simplified_form(alloc, form)?;
-    Err(OutOfMemory)
+    simplified_form(alloc, form)
 }
 
 #[cfg(test)]

@@ -5,6 +5,7 @@
 mod atom;
 mod connective;
 mod formula;
+pub mod laws;
 mod merge;
 
 pub use formula::simplify;
