@@ -1,12 +1,14 @@
-//! The texts of polynomials and formulas.
+//! The texts of names, polynomials and formulas.
 //! Knows nothing of reading and elimination.
 #![tactic(auto)]
 
 mod formula;
+mod name;
 mod polynomial;
 #[cfg(test)]
 mod tests;
 
 pub use formula::form_text;
+pub use name::name_text;
 pub use polynomial::poly_text;
 pub use std::alloc::AllocError as OutOfMemory;

@@ -1,4 +1,4 @@
-use crate::{form_text, poly_text};
+use crate::{form_text, name_text, poly_text};
 use qe_coef::Coef;
 use qe_form::{Atom, Form, Forms, Names, Poly, Sequence, Signs, Var};
 use qe_poly::PolyStop;
@@ -116,5 +116,25 @@ fn prints_each_kind(rt: HostRuntime) -> Result<(), Fail> {
     let want =
         "ex x1. [[4*a*c - b^2 <= 0 and a <> 0] or [not [true]]] implies [false iff [all b. true]]";
     assert_eq!(rt; text.as_slice(), want.as_bytes());
+    Ok(())
+}
+
+/// The names x, y and x, in this order.
+fn repeated(alloc: Global) -> Result<Names, AllocError> {
+    let mut names = Names::new(alloc);
+    names.push(String::from_str(alloc, "x")?)?;
+    names.push(String::from_str(alloc, "y")?)?;
+    names.push(String::from_str(alloc, "x")?)?;
+    Ok(names)
+}
+
+#[test]
+fn tells_names_apart(rt: HostRuntime) -> Result<(), Fail> {
+    let alloc = rt.alloc();
+    let names = repeated(alloc)?;
+    for (var, want) in [(0, "x#0"), (1, "y"), (2, "x#2"), (3, "")] {
+        let text = name_text(alloc, Var(var), &names)?;
+        assert_eq!(rt; text.as_slice(), want.as_bytes());
+    }
     Ok(())
 }
