@@ -73,12 +73,18 @@ module _ {F : Type 0} (expand : Expansion F) where
   EachBlock P n [] m = Unit {0}
   EachBlock P n (b ∷ bs) m = EachBlock P (suc n) bs m × IfGiven (P b) (eliminated_from (suc n) bs m)
 
-  -- the block's tree has a leaf that is True, or no more distinct nodes than the limit
-  abbrev pub Fits : ℕ → Block → Formula → Type 0
-  Fits limit b m = IsTrue (has_true_leaf expand b.vars (nodes expand b.vars (root b.kind m))) ⊎ (count_of b m ≤ limit)
+  -- the block's tree has no more distinct nodes than the limit, or more
+  abbrev pub IsWithin : ℕ → Block → Formula → Type 0
+  IsWithin limit b m = count_of b m ≤ limit
 
-  -- the block with the number k has more distinct nodes than the limit, and the blocks further in give its matrix
-  abbrev pub Exceeds : ℕ → ℕ → ℕ → List Block → Formula → Type 0
-  Exceeds limit k n [] m = ⊥
-  Exceeds limit k n (b ∷ bs) m =
-      ((k ≡ n) × ((g : Formula) × ((eliminated_from (suc n) bs m ≡ given g) × (limit < count_of b g)))) ⊎ Exceeds limit k (suc n) bs m
+  abbrev pub IsBeyond : ℕ → Block → Formula → Type 0
+  IsBeyond limit b m = limit < count_of b m
+
+  -- the tree has a leaf that is True, or no more distinct nodes than the limit
+  abbrev pub Fits : ℕ → Block → Formula → Type 0
+  Fits limit b m = IsTrue (has_true_leaf expand b.vars (nodes expand b.vars (root b.kind m))) ⊎ IsWithin limit b m
+
+  -- P of the block with the number k and its matrix, which the blocks further in give
+  abbrev pub AtBlock : (Block → Formula → Type 0) → ℕ → ℕ → List Block → Formula → Type 0
+  AtBlock P k n [] m = ⊥
+  AtBlock P k n (b ∷ bs) m = ((k ≡ n) × ((g : Formula) × ((eliminated_from (suc n) bs m ≡ given g) × P b g))) ⊎ AtBlock P k (suc n) bs m
