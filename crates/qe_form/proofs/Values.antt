@@ -56,7 +56,7 @@ module _ (p : Point) (valid : IsPoint p) where
   value_valid ts = subst IsNumber (value-number ts) (valid_value ts).1
 
 -- the same numbers, written otherwise
-rewritten : {a b c d : Number} → a ≡ b → c ≡ d → Equal a c → Equal b d
+pub rewritten : {a b c d : Number} → a ≡ b → c ≡ d → Equal a c → Equal b d
 rewritten {a} {b} {c} {d} p q equal = subst (λ z. Equal z d) p (subst (λ z. Equal a z) q equal)
 
 -- ---- the operations
@@ -81,10 +81,10 @@ value_of_multiple c q p valid = rewritten (value-number p valid (scaled c q)) (a
 
 module _ (p : Point) (valid : IsPoint p) (x : ℕ) (v : Number) (valid_v : IsNumber v) where
   -- the point with this number for x
-  abbrev new : ℕ → ValidNumber
+  abbrev pub new : ℕ → ValidNumber
   new = updated (valid_point p valid) x (v, valid_v)
 
-  with_number : (y : ℕ) → ValidEqual (valid_point ((x, v) ∷ p) (valid_v, valid) y) (new y)
+  pub with_number : (y : ℕ) → ValidEqual (valid_point ((x, v) ∷ p) (valid_v, valid) y) (new y)
   with_number y = elim (eqb x y) as (λ b. Equal (or_zero (if b then Some v else look_up p y)) (cond b (v, valid_v) (valid_point p valid y)).0) [ true ↦ R.same (v, valid_v) | false ↦ R.same (valid_point p valid y) ]
 
   pub value_of_quadratic : (q : Polynomial) → IsPolynomial q → degree_in x q ≤ 2

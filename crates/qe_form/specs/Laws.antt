@@ -1,17 +1,19 @@
 -- The laws of values, truth and sameness, stated.
-use Rattle.std.specs.Prelude.{◌≡◌, ℕ, ℤ, Bool, true, false, ◌⊎◌, ◌↔◌, Option, Some, None}
+use Rattle.std.specs.Prelude.{◌≡◌, ℕ, ℤ, Bool, true, false, ◌⊎◌, ◌↔◌, Option, Some, None, ◌∷◌}
 use Rattle.std.specs.declared.cmp.Ordering.TheVariants as ordering
 use Rattle.std.specs.Cmp.{IsTotalOrder}
 use Rattle.qe_tower.specs.Number.{Number, add, mul, neg, whole_number, Equal}
-use Rattle.qe_tower.specs.Point.{Point, IsPoint, look_up}
+use Rattle.qe_tower.specs.Point.{Point, IsPoint, look_up, number_at}
 use Rattle.qe_poly.specs.Polynomial.{Polynomial, sum, negative, product}
 use Rattle.qe_poly.specs.Value.{scaled}
+use Rattle.qe_poly.specs.Renamed.{renamed}
+use Rattle.qe_poly.specs.declared.monomial.Var.{Var}
 use Rattle.qe_form.specs.Formula.{Formula, Formulas, And, Or, Not, Implies, Iff, Ex, All}
 use Rattle.qe_form.specs.Measures.{Has}
 use Rattle.qe_form.specs.Order.{formula_cmp}
 use Rattle.qe_form.specs.Value.{value}
 use Rattle.qe_form.specs.Truth.{Is}
-use Rattle.qe_form.specs.Same.{IsFree, HasNoQuantifier, Gives, Same, SameEach}
+use Rattle.qe_form.specs.Same.{OccursInSome, IsFree, HasNoQuantifier, Gives, Same, SameEach}
 use Rattle.qe_form.specs.Preserved.{Preserves, IsDecided, HasDecidedCore, HasOuterQuantifiers}
 
 -- no formula is both true and false at a point
@@ -90,6 +92,10 @@ ValueOfProduct = (q r : Polynomial) (p : Point) → IsPoint p → Equal (value (
 -- the value of a multiple is the multiple of the value
 abbrev pub ValueOfMultiple : Type 0
 ValueOfMultiple = (c : ℤ) (q : Polynomial) (p : Point) → IsPoint p → Equal (value (scaled c q) p) (mul (whole_number c) (value q p))
+
+-- the value with y in the place of x is that where x has the number of y
+abbrev pub ValueOfRenamed : Type 0
+ValueOfRenamed = (x y : Var) (q : Polynomial) (p : Point) → IsPoint p → (OccursInSome y.0 q → ⊥) → Equal (value (renamed x y q) p) (value q ((x.0, number_at p y.0) ∷ p))
 
 -- neither is a number, or both are and they are equal
 abbrev pub SameNumber : Option Number → Option Number → Type 0

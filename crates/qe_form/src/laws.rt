@@ -1,6 +1,6 @@
 //! The laws of values, of truth and of the order. Each function does nothing: its clause is the law.
 
-ghost use Rattle.qe_form.specs.Laws.{NeverBoth, Decided, Classical, SameIsPreorder, SameIsKept, SameIsLiteral, PreservesIsSame, PreservesIsPreorder, PreservesIsKept, CoresAreDecided, ValueOfSum, ValueOfNegative, ValueOfProduct, ValueOfMultiple, EqualPoints, OccurringIsFree, OrderIsTotal};
+ghost use Rattle.qe_form.specs.Laws.{NeverBoth, Decided, Classical, SameIsPreorder, SameIsKept, SameIsLiteral, PreservesIsSame, PreservesIsPreorder, PreservesIsKept, CoresAreDecided, ValueOfSum, ValueOfNegative, ValueOfProduct, ValueOfMultiple, ValueOfRenamed, EqualPoints, OccurringIsFree, OrderIsTotal};
 
 /// No formula is both true and false at a point.
 pub fn never_both()
@@ -70,6 +70,11 @@ pub fn value_of_product()
 /// The value of a polynomial times a whole number is that number times the value, at every point.
 pub fn value_of_multiple()
     ensures { ValueOfMultiple }
+{}
+
+/// The value of a polynomial with a variable in the place of another is that where the other has the variable's number.
+pub fn value_of_renamed()
+    ensures { ValueOfRenamed }
 {}
 
 /// A formula is true at both, or false at both, of two points that give equal numbers to the same variables.

@@ -1,4 +1,5 @@
 pub mod NormalForm
 pub mod Numbering
 pub mod Blocks
+pub mod Walk
 pub mod Prenex

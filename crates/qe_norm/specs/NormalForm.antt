@@ -1,37 +1,44 @@
 -- The normal form: implications and equivalences are opened, and negations move to the atoms.
-use Rattle.std.specs.Prelude.{Bool, true, false, ◌+◌, ◌*◌, ℕ}
+use Rattle.std.specs.Prelude.{Bool, true, false, not, cond, ℕ, ◌+◌, ◌*◌}
+use Rattle.qe_form.specs.declared.signs.Signs.{Signs}
 use Rattle.qe_form.specs.Signs.{complement}
 use Rattle.qe_form.specs.Formula.{Formula, Formulas, True, False, Atom, And, Or, Not, Implies, Iff, Ex, All, no_more, more}
 
-abbrev pub both : Formula → Formula → Formula
-both f g = And (more f (more g no_more))
+-- the constant of this truth
+abbrev pub constant : Bool → Formula
+constant true = True
+constant false = False
 
-abbrev pub either : Formula → Formula → Formula
-either f g = Or (more f (more g no_more))
+-- an And where b is true, and an Or where it is false
+abbrev pub connected : Bool → Formulas → Formula
+connected true fs = And fs
+connected false fs = Or fs
 
--- `normal_form true f` is the normal form of f, and `normal_form false f` that of its negation.
+abbrev pub pair : Bool → Formula → Formula → Formula
+pair b f g = connected b (more f (more g no_more))
+
+-- an Ex where b is true, and an All where it is false
+abbrev pub quantified_if : Bool → ℕ → Formula → Formula
+quantified_if true x f = Ex x f
+quantified_if false x f = All x f
+
+-- the signs, or their complement where b is false
+abbrev pub signs_if : Bool → Signs → Signs
+signs_if b s = cond b s (complement s)
+
+-- The normal form of f where b is true, and that of its negation where b is false.
 abbrev mutual
   pub normal_form : Bool → Formula → Formula
-  normal_form true True = True
-  normal_form false True = False
-  normal_form true False = False
-  normal_form false False = True
-  normal_form true (Atom a) = Atom a
-  normal_form false (Atom a) = Atom (record { poly = a.poly; signs = complement a.signs })
-  normal_form true (And fs) = And (normal_forms true fs)
-  normal_form false (And fs) = Or (normal_forms false fs)
-  normal_form true (Or fs) = Or (normal_forms true fs)
-  normal_form false (Or fs) = And (normal_forms false fs)
-  normal_form true (Not f) = normal_form false f
-  normal_form false (Not f) = normal_form true f
-  normal_form true (Implies f g) = either (normal_form false f) (normal_form true g)
-  normal_form false (Implies f g) = both (normal_form true f) (normal_form false g)
-  normal_form true (Iff f g) = either (both (normal_form true f) (normal_form true g)) (both (normal_form false f) (normal_form false g))
-  normal_form false (Iff f g) = either (both (normal_form true f) (normal_form false g)) (both (normal_form false f) (normal_form true g))
-  normal_form true (Ex x f) = Ex x (normal_form true f)
-  normal_form false (Ex x f) = All x (normal_form false f)
-  normal_form true (All x f) = All x (normal_form true f)
-  normal_form false (All x f) = Ex x (normal_form false f)
+  normal_form b True = constant b
+  normal_form b False = constant (not b)
+  normal_form b (Atom a) = Atom (record { poly = a.poly; signs = signs_if b a.signs })
+  normal_form b (And fs) = connected b (normal_forms b fs)
+  normal_form b (Or fs) = connected (not b) (normal_forms b fs)
+  normal_form b (Not f) = normal_form (not b) f
+  normal_form b (Implies f g) = pair (not b) (normal_form (not b) f) (normal_form b g)
+  normal_form b (Iff f g) = pair false (pair true (normal_form true f) (normal_form b g)) (pair true (normal_form false f) (normal_form (not b) g))
+  normal_form b (Ex x f) = quantified_if b x (normal_form b f)
+  normal_form b (All x f) = quantified_if (not b) x (normal_form b f)
 
   pub normal_forms : Bool → Formulas → Formulas
   normal_forms b no_more = no_more

@@ -1,6 +1,6 @@
 -- The walk through a normal form from left to right, a quantifier before its body, in which each quantifier gets a variable
 -- of its own: that of the formula where it is first met, and the next number without a name where it is met again, as a copy.
-use Rattle.std.specs.Prelude.{ℕ, Bool, true, false, cond, ◌&&◌, nat_lt, List, [], ◌∷◌, ◌++◌, length, slice_index_or, slice_set}
+use Rattle.std.specs.Prelude.{ℕ, Bool, true, false, cond, ◌&&◌, nat_lt, List, [], ◌∷◌, ◌++◌, length, replicate, slice_index_or, slice_get, slice_set, unwrap_or}
 use Rattle.qe_poly.specs.Polynomial.{Polynomial}
 use Rattle.qe_poly.specs.Renamed.{renamed}
 use Rattle.qe_form.specs.Formula.{Formula, Formulas, True, False, Atom, And, Or, Not, Implies, Iff, Ex, All, no_more, more}
@@ -10,6 +10,9 @@ use Rattle.qe_norm.specs.declared.walk.Renaming.{Renaming}
 pub record Walked : Type 0 where
   pub met : List Bool
   pub names : List (List ℕ)
+
+abbrev pub walked : List Bool → List (List ℕ) → Walked
+walked met names = record { met = met; names = names }
 
 -- Whether a quantifier for the variable was met before. Numbers end below 2^32: where there are so many names it counts as not
 -- met, which no promise looks at.
@@ -24,7 +27,7 @@ number w x = cond (is_copy w x) (length w.names) x
 abbrev pub after : Walked → ℕ → Walked
 after w x =
     cond (is_copy w x)
-    (record { met = w.met; names = w.names ++ slice_index_or w.names x [] ∷ [] })
+    (record { met = w.met; names = w.names ++ unwrap_or (slice_get w.names x) [] ∷ [] })
     (record { met = slice_set w.met x true; names = w.names })
 
 -- the renamings in force in the body of a quantifier for x, in the order in which they came into force
@@ -51,11 +54,6 @@ abbrev mutual
   numbered_each (more f fs) rs w =
       (more (numbered f rs w).0 (numbered_each fs rs (numbered f rs w).1).0, (numbered_each fs rs (numbered f rs w).1).1)
 
--- for each name, that no quantifier was met for its variable
-abbrev pub none_met : {N : Type 0} → List N → List Bool
-none_met [] = []
-none_met (n ∷ ns) = false ∷ none_met ns
-
--- the start of a walk
+-- the start of a walk: no quantifier was met
 abbrev pub start : List (List ℕ) → Walked
-start names = record { met = none_met names; names = names }
+start names = record { met = replicate (length names) false; names = names }

@@ -19,3 +19,4 @@ pub mod Merging
 pub mod Values
 pub mod ProductValues
 pub mod QuadraticValues
+pub mod RenamedValues

@@ -130,7 +130,7 @@ module _ {C : Type 0} (o : Operations C) (E : C → C → Type 0) (R : IsRing o 
     pub constant-value : (c : ℤ) → E (val (constant c)) (whole c)
     constant-value c = nonzero-value (([], c) ∷ []) ▸ add-zero (mul (whole c) one) ▸ mul-one (whole c)
 
-    power-at : (x : Var) (n : ℕ) → E (at_monomial (power x n)) (power_of o (point x.0) n)
+    pub power-at : (x : Var) (n : ℕ) → E (at_monomial (power x n)) (power_of o (point x.0) n)
     power-at x zero = same one
     power-at x (suc n) =
         let positive : eqb (suc n) 0 ≡ false = grind (arith, nat_tests) in

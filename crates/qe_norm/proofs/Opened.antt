@@ -1,0 +1,214 @@
+-- The normal form is true where the formula is, and false where it is; it has the same free variables.
+use Rattle.std.proofs.Common.{◌≡◌, ◌∙◌, refl, sym, ap, subst, ℕ, Bool, true, false, not, ◌⊎◌, ◌↔◌, inl, inr, ◌∷◌}
+use Rattle.qe_ring.specs.Sign.{Sign, Minus, Zero, Plus}
+use Rattle.qe_tower.specs.Number.{Number, IsNumber, sign_of}
+use Rattle.qe_tower.specs.Point.{Point}
+use Rattle.qe_form.specs.declared.signs.Signs.{Signs}
+use Rattle.qe_form.specs.Signs.{complement}
+use Rattle.qe_form.specs.Formula.{Formula, Formulas, True, False, Atom, And, Or, Not, Implies, Iff, Ex, All, no_more, more}
+use Rattle.qe_form.specs.Value.{value}
+use Rattle.qe_form.specs.Truth.{has_sign, Is, EachIs, SomeIs}
+use Rattle.qe_form.specs.Same.{IsFree, IsFreeInSome, Same}
+use Rattle.qe_form.proofs.TwoSides.{never_both}
+use Rattle.qe_norm.specs.NormalForm.{constant, connected, pair, quantified_if, signs_if, normal_form, normal_forms}
+
+-- b and c are the same
+abbrev pub agreeing : Bool → Bool → Bool
+agreeing true c = c
+agreeing false c = not c
+
+-- ---- one formula at a time
+
+constant_is : (b c : Bool) (p : Point) → Is (constant b) c p ↔ (agreeing b c ≡ true)
+constant_is true true p = ((λ e. e), (λ e. e))
+constant_is true false p = ((λ e. e), (λ e. e))
+constant_is false true p = ((λ e. sym e), (λ e. sym e))
+constant_is false false p = ((λ e. refl), (λ e. refl))
+
+constant_is_not : (b c : Bool) (p : Point) → Is (constant (not b)) c p ↔ (agreeing b c ≡ false)
+constant_is_not true true p = ((λ e. sym e), (λ e. sym e))
+constant_is_not true false p = ((λ e. refl), (λ e. refl))
+constant_is_not false true p = ((λ e. refl), (λ e. refl))
+constant_is_not false false p = ((λ e. sym e), (λ e. sym e))
+
+complement_has : (s : Signs) (t : Sign) → has_sign (complement s) t ≡ not (has_sign s t)
+complement_has s Minus = refl
+complement_has s Zero = refl
+complement_has s Plus = refl
+
+not_moved : (a b : Bool) → (not a ≡ b) ↔ (a ≡ not b)
+not_moved true true = ((λ e. sym e), (λ e. sym e))
+not_moved true false = ((λ e. refl), (λ e. refl))
+not_moved false true = ((λ e. refl), (λ e. refl))
+not_moved false false = ((λ e. sym e), (λ e. sym e))
+
+signs_are : (b c : Bool) (s : Signs) (t : Sign) → (has_sign (signs_if b s) t ≡ c) ↔ (has_sign s t ≡ agreeing b c)
+signs_are true c s t = ((λ e. e), (λ e. e))
+signs_are false c s t = (λ e. (not_moved (has_sign s t) c).0 (sym (complement_has s t) ∙ e), λ e. complement_has s t ∙ (not_moved (has_sign s t) c).1 e)
+
+-- each of the formulas is of this truth, or some is
+abbrev pub Joined : Bool → Formulas → Bool → Point → Type 0
+Joined true fs c p = EachIs fs c p
+Joined false fs c p = SomeIs fs c p
+
+pub connected_is : (b : Bool) (fs : Formulas) (c : Bool) (p : Point) → Is (connected b fs) c p ↔ Joined (agreeing b c) fs c p
+connected_is true fs true p = ((λ t. t), (λ t. t))
+connected_is true fs false p = ((λ t. t), (λ t. t))
+connected_is false fs true p = ((λ t. t), (λ t. t))
+connected_is false fs false p = ((λ t. t), (λ t. t))
+
+-- for some number, or for each
+abbrev pub Ranges : Bool → (Number → Type 0) → Type 0
+Ranges true P = (v : Number) × IsNumber v × P v
+Ranges false P = (v : Number) → IsNumber v → P v
+
+pub quantified_is : (b : Bool) (x : ℕ) (f : Formula) (c : Bool) (p : Point) → Is (quantified_if b x f) c p ↔ Ranges (agreeing b c) (λ v. Is f c ((x, v) ∷ p))
+quantified_is true x f true p = ((λ t. t), (λ t. t))
+quantified_is true x f false p = ((λ t. t), (λ t. t))
+quantified_is false x f true p = ((λ t. t), (λ t. t))
+quantified_is false x f false p = ((λ t. t), (λ t. t))
+
+pub ranges_moved : (b : Bool) (P Q : Number → Type 0) → ((v : Number) → IsNumber v → P v → Q v) → Ranges b P → Ranges b Q
+ranges_moved true P Q move t = (t.0, t.1, move t.0 t.1 t.2)
+ranges_moved false P Q move t = λ v k. move v k (t v k)
+
+then : {A B C : Type 0} → A ↔ B → B ↔ C → A ↔ C
+then p q = ((λ a. q.0 (p.0 a)), (λ c. p.1 (q.1 c)))
+
+
+-- ---- the whole formula
+
+two : {A B C D : Type 0} → A ↔ C → B ↔ D → (A × (B × Unit {0})) ↔ (C × D)
+two p q = ((λ t. (p.0 t.0, q.0 (t.1).0)), (λ t. (p.1 t.0, (q.1 t.1, tt))))
+
+one_of : {A B C D : Type 0} → A ↔ C → B ↔ D → (A ⊎ (B ⊎ ⊥)) ↔ (C ⊎ D)
+one_of p q = (
+  λ t. elim t [ inl a ↦ inl (p.0 a) | inr s ↦ elim s [ inl b ↦ inr (q.0 b) | inr n ↦ absurd n ] ],
+  λ t. elim t [ inl c ↦ inl (p.1 c) | inr d ↦ inr (inl (q.1 d)) ],
+)
+
+-- not both true and not both false: one is true and the other false
+crossed : (f g : Formula) (p : Point) → ((Is f false p ⊎ Is g false p) × (Is f true p ⊎ Is g true p)) ↔ ((Is f true p × Is g false p) ⊎ (Is f false p × Is g true p))
+crossed f g p = (
+  λ t. elim t.0 [
+    | inl a ↦ elim t.1 [ inl x ↦ absurd (never_both f p x a) | inr y ↦ inr (a, y) ]
+    | inr b ↦ elim t.1 [ inl x ↦ inl (x, b) | inr y ↦ absurd (never_both g p y b) ]
+  ],
+  λ t. elim t [ inl h ↦ (inr h.1, inl h.0) | inr h ↦ (inl h.0, inr h.1) ],
+)
+
+-- not one true and the other false: both are true or both are false
+level : (f g : Formula) (p : Point) → ((Is f false p ⊎ Is g true p) × (Is f true p ⊎ Is g false p)) ↔ ((Is f true p × Is g true p) ⊎ (Is f false p × Is g false p))
+level f g p = (
+  λ t. elim t.0 [
+    | inl a ↦ elim t.1 [ inl x ↦ absurd (never_both f p x a) | inr y ↦ inr (a, y) ]
+    | inr b ↦ elim t.1 [ inl x ↦ inl (x, b) | inr y ↦ absurd (never_both g p b y) ]
+  ],
+  λ t. elim t [ inl h ↦ (inr h.1, inl h.0) | inr h ↦ (inl h.0, inr h.1) ],
+)
+
+module _ (P Q : Number → Type 0) (r : (v : Number) → P v ↔ Q v) where
+  some_number : ((v : Number) × IsNumber v × P v) ↔ ((v : Number) × IsNumber v × Q v)
+  some_number = ((λ t. (t.0, t.1, (r t.0).0 t.2)), (λ t. (t.0, t.1, (r t.0).1 t.2)))
+
+  each_number : ((v : Number) → IsNumber v → P v) ↔ ((v : Number) → IsNumber v → Q v)
+  each_number = ((λ t v k. (r v).0 (t v k)), (λ t v k. (r v).1 (t v k)))
+
+mutual
+  pub normal_form_is : (b : Bool) (f : Formula) (c : Bool) (p : Point) → Is (normal_form b f) c p ↔ Is f (agreeing b c) p
+  normal_form_is b True c p = constant_is b c p
+  normal_form_is b False c p = constant_is_not b c p
+  normal_form_is b (Atom a) c p = signs_are b c a.signs (sign_of (value a.poly p))
+  normal_form_is true (And fs) true p = normal_forms_each true fs true p
+  normal_form_is true (And fs) false p = normal_forms_some true fs false p
+  normal_form_is false (And fs) true p = normal_forms_some false fs true p
+  normal_form_is false (And fs) false p = normal_forms_each false fs false p
+  normal_form_is true (Or fs) true p = normal_forms_some true fs true p
+  normal_form_is true (Or fs) false p = normal_forms_each true fs false p
+  normal_form_is false (Or fs) true p = normal_forms_each false fs true p
+  normal_form_is false (Or fs) false p = normal_forms_some false fs false p
+  normal_form_is true (Not f) c p = normal_form_is false f c p
+  normal_form_is false (Not f) true p = normal_form_is true f true p
+  normal_form_is false (Not f) false p = normal_form_is true f false p
+  normal_form_is true (Implies f g) true p = one_of (normal_form_is false f true p) (normal_form_is true g true p)
+  normal_form_is true (Implies f g) false p = two (normal_form_is false f false p) (normal_form_is true g false p)
+  normal_form_is false (Implies f g) true p = two (normal_form_is true f true p) (normal_form_is false g true p)
+  normal_form_is false (Implies f g) false p = one_of (normal_form_is true f false p) (normal_form_is false g false p)
+  normal_form_is true (Iff f g) true p =
+      one_of (two (normal_form_is true f true p) (normal_form_is true g true p)) (two (normal_form_is false f true p) (normal_form_is false g true p))
+  normal_form_is false (Iff f g) true p =
+      one_of (two (normal_form_is true f true p) (normal_form_is false g true p)) (two (normal_form_is false f true p) (normal_form_is true g true p))
+  normal_form_is true (Iff f g) false p =
+      then (two (one_of (normal_form_is true f false p) (normal_form_is true g false p)) (one_of (normal_form_is false f false p) (normal_form_is false g false p)))
+      (crossed f g p)
+  normal_form_is false (Iff f g) false p =
+      then (two (one_of (normal_form_is true f false p) (normal_form_is false g false p)) (one_of (normal_form_is false f false p) (normal_form_is true g false p)))
+      (level f g p)
+  normal_form_is true (Ex x f) true p = some_number _ _ (λ v. normal_form_is true f true ((x, v) ∷ p))
+  normal_form_is true (Ex x f) false p = each_number _ _ (λ v. normal_form_is true f false ((x, v) ∷ p))
+  normal_form_is false (Ex x f) true p = each_number _ _ (λ v. normal_form_is false f true ((x, v) ∷ p))
+  normal_form_is false (Ex x f) false p = some_number _ _ (λ v. normal_form_is false f false ((x, v) ∷ p))
+  normal_form_is true (All x f) true p = each_number _ _ (λ v. normal_form_is true f true ((x, v) ∷ p))
+  normal_form_is true (All x f) false p = some_number _ _ (λ v. normal_form_is true f false ((x, v) ∷ p))
+  normal_form_is false (All x f) true p = some_number _ _ (λ v. normal_form_is false f true ((x, v) ∷ p))
+  normal_form_is false (All x f) false p = each_number _ _ (λ v. normal_form_is false f false ((x, v) ∷ p))
+
+  normal_forms_each : (b : Bool) (fs : Formulas) (c : Bool) (p : Point) → EachIs (normal_forms b fs) c p ↔ EachIs fs (agreeing b c) p
+  normal_forms_each b no_more c p = ((λ t. t), (λ t. t))
+  normal_forms_each b (more f fs) c p =
+      let first = normal_form_is b f c p in
+      let rest = normal_forms_each b fs c p in
+      ((λ t. (first.0 t.0, rest.0 t.1)), (λ t. (first.1 t.0, rest.1 t.1)))
+
+  normal_forms_some : (b : Bool) (fs : Formulas) (c : Bool) (p : Point) → SomeIs (normal_forms b fs) c p ↔ SomeIs fs (agreeing b c) p
+  normal_forms_some b no_more c p = ((λ t. t), (λ t. t))
+  normal_forms_some b (more f fs) c p =
+      let first = normal_form_is b f c p in
+      let rest = normal_forms_some b fs c p in (
+        λ t. elim t [ inl x ↦ inl (first.0 x) | inr y ↦ inr (rest.0 y) ],
+        λ t. elim t [ inl x ↦ inl (first.1 x) | inr y ↦ inr (rest.1 y) ],
+      )
+
+-- ---- its free variables
+
+either_free : {A B C D : Type 0} → (A → C) → (B → D) → A ⊎ (B ⊎ ⊥) → C ⊎ D
+either_free p q t = elim t [ inl a ↦ inl (p a) | inr s ↦ elim s [ inl b ↦ inr (q b) | inr n ↦ absurd n ] ]
+
+both_kinds : {A C : Type 0} → (A → C) → (A → C) → A ⊎ (A ⊎ ⊥) → C
+both_kinds p q t = elim t [ inl a ↦ p a | inr s ↦ elim s [ inl b ↦ q b | inr n ↦ absurd n ] ]
+
+pub free_connected : (b : Bool) (fs : Formulas) (x : ℕ) → IsFree x (connected b fs) → IsFreeInSome x fs
+free_connected true fs x o = o
+free_connected false fs x o = o
+
+pub free_quantified : (b : Bool) (y : ℕ) (f : Formula) (x : ℕ) → IsFree x (quantified_if b y f) → (x ≡ y → ⊥) × IsFree x f
+free_quantified true y f x o = o
+free_quantified false y f x o = o
+
+free_constant : (b : Bool) (x : ℕ) → IsFree x (constant b) → ⊥
+free_constant true x o = o
+free_constant false x o = o
+
+mutual
+  pub free_normal : (b : Bool) (f : Formula) (x : ℕ) → IsFree x (normal_form b f) → IsFree x f
+  free_normal b True x o = free_constant b x o
+  free_normal b False x o = free_constant (not b) x o
+  free_normal b (Atom a) x o = o
+  free_normal b (And fs) x o = free_normals b fs x (free_connected b (normal_forms b fs) x o)
+  free_normal b (Or fs) x o = free_normals b fs x (free_connected (not b) (normal_forms b fs) x o)
+  free_normal b (Not f) x o = free_normal (not b) f x o
+  free_normal b (Implies f g) x o = either_free (free_normal (not b) f x) (free_normal b g x) (free_connected (not b) _ x o)
+  free_normal b (Iff f g) x o =
+      elim o [
+        | inl s ↦ either_free (free_normal true f x) (free_normal b g x) s
+        | inr t ↦ elim t [ inl s ↦ either_free (free_normal false f x) (free_normal (not b) g x) s | inr n ↦ absurd n ]
+      ]
+  free_normal b (Ex y f) x o = let h = free_quantified b y (normal_form b f) x o in (h.0, free_normal b f x h.1)
+  free_normal b (All y f) x o = let h = free_quantified (not b) y (normal_form b f) x o in (h.0, free_normal b f x h.1)
+
+  free_normals : (b : Bool) (fs : Formulas) (x : ℕ) → IsFreeInSome x (normal_forms b fs) → IsFreeInSome x fs
+  free_normals b no_more x o = o
+  free_normals b (more f fs) x o = elim o [ inl h ↦ inl (free_normal b f x h) | inr h ↦ inr (free_normals b fs x h) ]
+
+pub normal_is_same : (f : Formula) → Same f (normal_form true f)
+normal_is_same f = record { free = λ x o. free_normal true f x o; agree = λ p valid gives c. let r = normal_form_is true f c p in (r.1, r.0) }
