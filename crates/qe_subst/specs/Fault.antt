@@ -1,7 +1,9 @@
 -- The first limit that the substitution for an atom meets, with its step.
-use Rattle.std.specs.Prelude.{List, [], ◌∷◌, Option, None, Some}
+use Rattle.std.specs.Prelude.{List, [], ◌∷◌, Option, None, Some, Result, Ok, Err, ◌≡◌}
 use Rattle.qe_poly.specs.declared.limit.PolyLimit.{PolyLimit}
 use Rattle.qe_root.specs.declared.stop.Stage.{Stage}
+use Rattle.qe_subst.specs.declared.stop.AtomStop.{AtomStop}
+use Rattle.qe_subst.specs.declared.stop.AtomStop.TheVariants.{Limit, OutOfMemory}
 
 -- a limit, and the step in which it is met
 pub record Fault : Type 0 where
@@ -22,3 +24,13 @@ or_else None rest = rest
 abbrev pub first : List (Option Fault) → Option Fault
 first [] = None
 first (fault ∷ faults) = or_else fault (first faults)
+
+-- the stop is that fault, or want of memory
+abbrev pub IsStop : Option Fault → AtomStop → Type 0
+IsStop fault (Limit stage limit) = fault ≡ Some (record { stage = stage; limit = limit })
+IsStop fault OutOfMemory = Unit {0}
+
+-- the fault where there is one, and else a result of which P holds; want of memory may come in place of either
+abbrev pub IsOutcome : {A : Type 0} → Option Fault → (A → Type 0) → Result A AtomStop → Type 0
+IsOutcome fault P (Ok a) = (fault ≡ None) × P a
+IsOutcome fault P (Err stop) = IsStop fault stop

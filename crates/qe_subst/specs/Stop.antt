@@ -12,7 +12,12 @@ use Rattle.qe_subst.specs.Substituted.{substituted, fault_of}
 
 -- the next number, up to the greatest of 64 bits, which no formula in a memory reaches
 abbrev pub next : ℕ → ℕ
-next n = min (2 ^ 64 - 1) (n + 1)
+next n = min (n + 1) (2 ^ 64 - 1)
+
+-- the number after those of atoms of which the first has number n
+abbrev pub after : ℕ → List atom.Atom → ℕ
+after n [] = n
+after n (a ∷ rest) = after (next n) rest
 
 module _ (x : ℕ) (point : Point) (own : Option Polynomial) where
   -- the first limit in the order of the atoms, of which the first has number n

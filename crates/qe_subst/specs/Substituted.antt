@@ -42,7 +42,7 @@ is_even signs = cond signs.minus signs.plus (cond signs.plus false true)
 -- the polynomial is the point's own
 abbrev pub is_own : Option Polynomial → Polynomial → Bool
 is_own None f = false
-is_own (Some own) f = poly_eq f own
+is_own (Some own) f = poly_eq own f
 
 module _ (x : ℕ) where
   -- ---- at a root
@@ -57,7 +57,9 @@ module _ (x : ℕ) where
     at_root_fault f signs = cond (is_own own f) None
         (first (in_stage stage.Root (value_limit f x k) ∷ in_stage stage.Sign (sign_limit (plain_part_of f x k) (root_part_of f x k) k.r signs) ∷ []))
 
-    -- ---- just above a root
+    -- with the set without zero, and with zero alone
+    abbrev pub at_both_fault : Polynomial → Signs → Option Fault
+    at_both_fault f signs = first (at_root_fault f (strict signs) ∷ at_root_fault f equal ∷ [])
 
     -- A polynomial of degree n has one of the signs of an inequality just above the root: it has one at the root, zero left out, or it
     -- is zero there and its slope, of degree n-1, has one of the signs just above the root.
@@ -67,8 +69,7 @@ module _ (x : ℕ) where
 
     abbrev pub near_fault : ℕ → Polynomial → Signs → Option Fault
     near_fault zero f signs = None
-    near_fault (suc n) f signs =
-        first (at_root_fault f (strict signs) ∷ at_root_fault f equal ∷ in_stage stage.Slope (derivative_limit x f) ∷ near_fault n (derivative x f) signs ∷ [])
+    near_fault (suc n) f signs = first (at_both_fault f signs ∷ in_stage stage.Slope (derivative_limit x f) ∷ near_fault n (derivative x f) signs ∷ [])
 
   -- ---- where a polynomial is not zero but if it is zero everywhere
 
@@ -86,14 +87,27 @@ module _ (x : ℕ) where
   abbrev pub line_below : Polynomial → Signs → Formula
   line_below f signs = either (sign_is (coefficient_in x 1 f) (mirror (strict signs))) (both (sign_is (coefficient_in x 1 f) equal) (sign_is (coefficient_in x 0 f) signs))
 
+  abbrev pub constant_below : Polynomial → Signs → Formula
+  constant_below f signs =
+      And (more (sign_is (coefficient_in x 2 f) equal) (more (sign_is (coefficient_in x 1 f) equal) (more (sign_is (coefficient_in x 0 f) signs) no_more)))
+
   abbrev pub square_below : Polynomial → Signs → Formula
   square_below f signs =
       Or (more (sign_is (coefficient_in x 2 f) (strict signs))
       (more (both (sign_is (coefficient_in x 2 f) equal) (sign_is (coefficient_in x 1 f) (mirror (strict signs))))
-      (more (And (more (sign_is (coefficient_in x 2 f) equal) (more (sign_is (coefficient_in x 1 f) equal) (more (sign_is (coefficient_in x 0 f) signs) no_more)))) no_more)))
+      (more (constant_below f signs) no_more)))
 
-  abbrev pub below : Polynomial → Signs → Formula
-  below f signs = cond (eqb (degree_in x f) 1) (line_below f signs) (square_below f signs)
+  abbrev pub at_minus_infinity : Polynomial → Signs → Formula
+  at_minus_infinity f signs = cond (is_even signs) (everywhere f signs) (cond (eqb (degree_in x f) 1) (line_below f signs) (square_below f signs))
+
+  -- ---- just above a root
+
+  module _ (own : Option Polynomial) (k : RootPoint) where
+    abbrev pub above_root : Polynomial → Signs → Formula
+    above_root f signs = cond (is_even signs) (everywhere f signs) (near own k (degree_in x f) f signs)
+
+    abbrev pub above_root_fault : Polynomial → Signs → Option Fault
+    above_root_fault f signs = cond (is_even signs) None (near_fault own k (degree_in x f) f signs)
 
   -- ---- at a test point
 
@@ -102,14 +116,14 @@ module _ (x : ℕ) where
     abbrev pub at_point : Polynomial → Signs → Formula
     at_point f signs = elim point [
       | Root k ↦ at_root own k f signs
-      | RootPlus k ↦ cond (is_even signs) (everywhere f signs) (near own k (degree_in x f) f signs)
-      | MinusInf ↦ cond (is_even signs) (everywhere f signs) (below f signs)
+      | RootPlus k ↦ above_root own k f signs
+      | MinusInf ↦ at_minus_infinity f signs
     ]
 
     abbrev pub at_point_fault : Polynomial → Signs → Option Fault
     at_point_fault f signs = elim point [
       | Root k ↦ at_root_fault own k f signs
-      | RootPlus k ↦ cond (is_even signs) None (near_fault own k (degree_in x f) f signs)
+      | RootPlus k ↦ above_root_fault own k f signs
       | MinusInf ↦ None
     ]
 

@@ -2,7 +2,13 @@
 //! Knows nothing of candidates, guards and nodes, nor of how a formula is simplified.
 #![tactic(auto)]
 
+mod below;
+mod connective;
 mod formula;
+mod near;
+mod root;
+mod signs;
+mod stop;
 
 pub use formula::substitute;
 pub use qe_root::{
