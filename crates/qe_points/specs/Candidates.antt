@@ -1,6 +1,6 @@
 -- The candidates of a formula: the roots of its atoms' polynomials, what is just above such roots, and what is below all numbers.
 use Rattle.std.specs.Prelude.{ℕ, suc, Bool, true, false, not, ◌&&◌, eqb, nat_lt, cond, List, [], ◌∷◌, ◌++◌}
-use Rattle.std.specs.List.{filter, flat_map}
+use Rattle.std.specs.List.{filter, flat_map, list_any}
 use Rattle.qe_poly.specs.Polynomial.{Polynomial}
 use Rattle.qe_poly.specs.Coefficients.{degree_in}
 use Rattle.qe_poly.specs.Equal.{poly_eq}
@@ -30,6 +30,10 @@ numbered x zero n (a ∷ rest) = cond (gives x zero a) ((a.poly, n) ∷ numbered
 abbrev pub distinct : List Numbered → List Numbered
 distinct [] = []
 distinct (g ∷ gs) = g ∷ filter (λ h. not (poly_eq g.0 h.0)) (distinct gs)
+
+-- one more at the end, unless its polynomial is there
+abbrev pub with_one : List Numbered → Numbered → List Numbered
+with_one gs g = cond (list_any (λ h. poly_eq g.0 h.0) gs) gs (gs ++ g ∷ [])
 
 -- the candidates at the roots of a polynomial of degree one or two, or just above them
 abbrev pub roots_of : ℕ → (plus : Bool) → Numbered → List Candidate

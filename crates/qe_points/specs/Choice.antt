@@ -1,5 +1,5 @@
 -- Which variable is eliminated first.
-use Rattle.std.specs.Prelude.{ℕ, ◌<◌, eqb, List, [], ◌∷◌, Option, Some, None, cond, ◌≡◌}
+use Rattle.std.specs.Prelude.{ℕ, ◌<◌, ◌⊎◌, eqb, List, [], ◌∷◌, Option, Some, None, cond, ◌≡◌}
 use Rattle.qe_poly.specs.declared.monomial.Var.{Var}
 use Rattle.qe_form.specs.Formula.{Formula}
 use Rattle.qe_form.specs.Measures.{degree}

@@ -1,15 +1,125 @@
 //! The candidates of a formula.
 
-ghost use Rattle.std.specs.Prelude.{◌≡◌, ◌≤◌, IfOk, All};
+ghost use Rattle.std.specs.Prelude.{◌≡◌, ◌≤◌, ◌++◌, ◌∷◌, [], true, false, IfOk, OnOk, All, map};
+ghost use Rattle.qe_poly.specs.Polynomial.{IsPolynomial};
 ghost use Rattle.qe_form.specs.Measures.{degree};
 ghost use Rattle.qe_form.specs.Plain.{IsPlain};
-ghost use Rattle.qe_form.specs.Tree.{tree};
+ghost use Rattle.qe_form.specs.Tree.{tree, trees};
+ghost use Rattle.qe_root.specs.Atoms as formula;
 ghost use Rattle.qe_points.specs.Candidates as spec;
 ghost use Rattle.qe_points.specs.Guarded.{IsOf};
 ghost use Rattle.qe_points.specs.Complete.{IsComplete};
 
-use crate::{Candidate, Form, OutOfMemory, Var};
+use crate::{Candidate, Form, OutOfMemory, Poly, Var, Which};
+use indexmap::IndexMap;
+use qe_form::{Atom, Forms};
 use std::alloc::Global;
+
+/// The different polynomials of some atoms in the order of these, each with the number of the first atom that has it.
+type Found = IndexMap<Poly, u64>;
+
+/// The polynomials with a variable, of the atoms whose signs have zero and of the others.
+#[derive(Drop)]
+struct Groups {
+    zero: Found,
+    other: Found,
+}
+
+/// Adds the atoms of a formula from left to right.
+#[cycle(gather)]
+fn gather<'a>(form: &'a Form, atoms: &mut Vec<&'a Atom>) -> Result<(), OutOfMemory>
+    ensures { OnOk result (map (λ a. a.now) atoms.new.items ≡ map (λ a. a.now) atoms.old.items ++ formula.atoms (tree form.now)) }
+{
+    match form {
+        Form::Atom(atom) => {
+            atoms.push(atom)?;
+            Ok(())
+        }
+        Form::And(parts) | Form::Or(parts) => gather_each(parts, atoms),
+        _ => Ok(()),
+    }
+}
+
+/// Adds the atoms of each part, in order.
+#[cycle(gather)]
+fn gather_each<'a>(parts: &'a Forms, atoms: &mut Vec<&'a Atom>) -> Result<(), OutOfMemory>
+    ensures { OnOk result (map (λ a. a.now) atoms.new.items ≡ map (λ a. a.now) atoms.old.items ++ formula.atoms_of (trees parts.now)) }
+{
+    for part in parts.items() {
+        gather(part, atoms)?;
+    }
+    Ok(())
+}
+
+/// Adds a polynomial with the number of its atom, unless it is there.
+fn note(alloc: Global, found: &mut Found, poly: &Poly, atom: u64) -> Result<(), OutOfMemory>
+    ensures { OnOk result (found.new.entries ≡ spec.with_one found.old.entries (poly.now, atom)) }
+{
+    if !found.contains_key(poly) {
+        found.insert(poly.copy(alloc)?, atom)?;
+    }
+    Ok(())
+}
+
+/// The polynomials with the variable.
+fn grouped(alloc: Global, x: Var, atoms: &[&Atom]) -> Result<Groups, OutOfMemory>
+    ensures zero { IfOk result (λ g. g.zero.entries ≡ spec.distinct (spec.numbered x.0 true 0 (map (λ a. a.now) atoms.now))) }
+    ensures other { IfOk result (λ g. g.other.entries ≡ spec.distinct (spec.numbered x.0 false 0 (map (λ a. a.now) atoms.now))) }
+    ensures canonical { IfOk result (λ _. All (λ a. IsPolynomial a.now.poly) atoms.now) }
+{
+    let mut zero = IndexMap::new(alloc);
+    let mut other = IndexMap::new(alloc);
+    for (number, atom) in atoms.iter().enumerate() {
+        if atom.poly.degree_in(x) > 0 {
+            if atom.signs.has_zero() {
+                note(alloc, &mut zero, &atom.poly, number as u64)?;
+            } else {
+                note(alloc, &mut other, &atom.poly, number as u64)?;
+            }
+        }
+    }
+    Ok(Groups { zero, other })
+}
+
+/// Adds the candidates at the roots of a polynomial, or just above them.
+fn add_roots(
+    alloc: Global,
+    x: Var,
+    plus: bool,
+    poly: Poly,
+    atom: u64,
+    candidates: &mut Vec<Candidate>,
+) -> Result<(), OutOfMemory>
+    ensures { OnOk result (candidates.new.items ≡ candidates.old.items ++ spec.roots_of x.0 plus (poly, atom)) }
+{
+    let degree = poly.degree_in(x);
+    if degree == 1 {
+        candidates.push(Candidate::Root { poly, atom, which: Which::Linear, plus })?;
+    } else if degree == 2 {
+        let linear = poly.copy(alloc)?;
+        candidates.push(Candidate::Root { poly: linear, atom, which: Which::Linear, plus })?;
+        let upper = poly.copy(alloc)?;
+        candidates.push(Candidate::Root { poly: upper, atom, which: Which::Upper, plus })?;
+        candidates.push(Candidate::Root { poly, atom, which: Which::Lower, plus })?;
+    }
+    Ok(())
+}
+
+/// Adds those of each polynomial, in order.
+fn add_each(
+    alloc: Global,
+    x: Var,
+    plus: bool,
+    found: Found,
+    candidates: &mut Vec<Candidate>,
+) -> Result<(), OutOfMemory>
+    ensures { OnOk result (candidates.new.items ≡ candidates.old.items ++ spec.roots x.0 plus found.entries) }
+{
+    for (poly, atom) in found {
+        add_roots(alloc, x, plus, poly, atom, candidates)?;
+    }
+    Ok(())
+}
 
 /// Where a formula has to be tested in a variable, after Loos and Weispfenning (1993) and Weispfenning (1997). First come the roots of
 /// the different polynomials that have the variable, of the atoms whose signs have zero, in the order in which these atoms first have
@@ -23,5 +133,12 @@ pub fn candidates(alloc: Global, form: &Form, x: Var) -> Result<Vec<Candidate>, 
     ensures complete { IfOk result (λ cs. IsPlain (tree form.now) → degree x.0 (tree form.now) ≤ 2
         → IsComplete x.0 (tree form.now) cs.items) }
 {
-    Err(OutOfMemory)
+    let mut atoms = Vec::new(alloc);
+    gather(form, &mut atoms)?;
+    let groups = grouped(alloc, x, &atoms)?;
+    let mut candidates = Vec::new(alloc);
+    add_each(alloc, x, false, groups.zero, &mut candidates)?;
+    add_each(alloc, x, true, groups.other, &mut candidates)?;
+    candidates.push(Candidate::MinusInf)?;
+    Ok(candidates)
 }
