@@ -7,3 +7,5 @@ pub mod FirstPlaces
 pub mod Leaves
 pub mod Stands
 pub mod Blocks
+pub mod Searching
+pub mod Ends
