@@ -132,7 +132,7 @@ module _ (run : Run) (answer : Status) (limit : ℕ) (asks : Asks run.words limi
   by_read_fault is rose nothing = record {
     ok = λ e. absurd (cc);
     usage = λ e. absurd (cc);
-    read_fault = λ e. (limit, asks, rose, nothing);
+    read_fault = λ e. (limit, asks, (rose, nothing));
     input_too_long = λ e. absurd (cc);
     bad_input = λ e. absurd (cc);
     too_large = λ e. absurd (cc);
@@ -150,7 +150,7 @@ module _ (run : Run) (answer : Status) (limit : ℕ) (asks : Asks run.words limi
     ok = λ e. absurd (cc);
     usage = λ e. absurd (cc);
     read_fault = λ e. absurd (cc);
-    input_too_long = λ e. (limit, asks, many, wrote);
+    input_too_long = λ e. (limit, asks, (many, wrote));
     bad_input = λ e. absurd (cc);
     too_large = λ e. absurd (cc);
     degree_excess = λ e. absurd (cc);

@@ -16,7 +16,9 @@ pub fn limit_asked(alloc: Global, words: &[String]) -> Result<Option<u32>, OutOf
     match parse(alloc, words) {
         Ok(job) => match job.mode {
             Mode::Eliminate => Ok(Some(job.nodes)),
-            Mode::Answers | Mode::Summary | Mode::Make => Ok(None),
+            Mode::Answers => Ok(None),
+            Mode::Summary => Ok(None),
+            Mode::Make => Ok(None),
         },
         Err(WordsStop::Usage) => Ok(None),
         Err(WordsStop::OutOfMemory) => Err(OutOfMemory),

@@ -120,6 +120,8 @@ pub fn node_line(
 pub fn node_limit_line(alloc: Global, block: u32, limit: u32) -> Result<Vec<u8>, OutOfMemory>
     ensures { IfOk result (λ text. text.items ≡ node_limit_line block limit) }
 {
-    let line = format!(in alloc; "node limit: block {block} has more than {limit} nodes\n")?;
-    Ok(line.into_bytes())
+    let mut out = String::new(alloc);
+    write!(out, "node limit: block {block} has more than {limit} nodes")?;
+    out.push_str("\n")?;
+    Ok(out.into_bytes())
 }
