@@ -69,12 +69,12 @@ all_parts : (P : ℕ → Type 0) (xs ys : List ℕ) → AllByRecursion P (xs ++ 
 all_parts P [] ys all = (tt, all)
 all_parts P (x ∷ xs) ys all = let rest = all_parts P xs ys all.1 in ((all.0, rest.0), rest.1)
 
+none_distinct : IsDistinct nat_eq []
+unfolding IsDistinct
+none_distinct = tt
+
 distinct_parts : (xs ys : List ℕ) → IsDistinct nat_eq (xs ++ ys) → IsDistinct nat_eq xs × IsDistinct nat_eq ys
-distinct_parts [] ys own = (none, own)
-  where
-    none : IsDistinct nat_eq []
-    unfolding IsDistinct
-    none = tt
+distinct_parts [] ys own = (none_distinct, own)
 distinct_parts (x ∷ xs) ys own =
     let rest = distinct_parts xs ys (IsDistinct-tail nat_eq x (xs ++ ys) own) in
     (IsDistinct-cons nat_eq x xs (all_parts (λ y. nat_eq x y ≡ false) xs ys (IsDistinct-head nat_eq x (xs ++ ys) own)).0 rest.0, rest.1)

@@ -1,1 +1,12 @@
 pub mod Opened
+pub mod Binders
+pub mod Steps
+pub mod Renamings
+pub mod Outwards
+pub mod Walks
+pub mod Grouping
+pub mod Matrices
+pub mod Mirrors
+pub mod Loops
+pub mod Wholes
+pub mod Assembled

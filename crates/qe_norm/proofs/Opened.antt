@@ -9,6 +9,7 @@ use Rattle.qe_form.specs.Formula.{Formula, Formulas, True, False, Atom, And, Or,
 use Rattle.qe_form.specs.Value.{value}
 use Rattle.qe_form.specs.Truth.{has_sign, Is, EachIs, SomeIs}
 use Rattle.qe_form.specs.Same.{IsFree, IsFreeInSome, Same}
+use Rattle.qe_form.specs.Preserved.{IsDecided}
 use Rattle.qe_form.proofs.TwoSides.{never_both}
 use Rattle.qe_norm.specs.NormalForm.{constant, connected, pair, quantified_if, signs_if, normal_form, normal_forms}
 
@@ -26,8 +27,7 @@ constant_is false true p = ((λ e. sym e), (λ e. sym e))
 constant_is false false p = ((λ e. refl), (λ e. refl))
 
 constant_is_not : (b c : Bool) (p : Point) → Is (constant (not b)) c p ↔ (agreeing b c ≡ false)
-constant_is_not true true p = ((λ e. sym e), (λ e. sym e))
-constant_is_not true false p = ((λ e. refl), (λ e. refl))
+constant_is_not true c p = ((λ e. e), (λ e. e))
 constant_is_not false true p = ((λ e. refl), (λ e. refl))
 constant_is_not false false p = ((λ e. sym e), (λ e. sym e))
 
@@ -74,7 +74,6 @@ ranges_moved false P Q move t = λ v k. move v k (t v k)
 
 then : {A B C : Type 0} → A ↔ B → B ↔ C → A ↔ C
 then p q = ((λ a. q.0 (p.0 a)), (λ c. p.1 (q.1 c)))
-
 
 -- ---- the whole formula
 
@@ -209,6 +208,48 @@ mutual
   free_normals : (b : Bool) (fs : Formulas) (x : ℕ) → IsFreeInSome x (normal_forms b fs) → IsFreeInSome x fs
   free_normals b no_more x o = o
   free_normals b (more f fs) x o = elim o [ inl h ↦ inl (free_normal b f x h) | inr h ↦ inr (free_normals b fs x h) ]
+
+-- and back
+
+either_free_back : {A B C D : Type 0} → (A → C) → (B → D) → A ⊎ B → C ⊎ (D ⊎ ⊥)
+either_free_back p q t = elim t [ inl a ↦ inl (p a) | inr b ↦ inr (inl (q b)) ]
+
+connected_free : (b : Bool) (fs : Formulas) (x : ℕ) → IsFreeInSome x fs → IsFree x (connected b fs)
+connected_free true fs x o = o
+connected_free false fs x o = o
+
+quantified_free : (b : Bool) (y : ℕ) (f : Formula) (x : ℕ) → (x ≡ y → ⊥) × IsFree x f → IsFree x (quantified_if b y f)
+quantified_free true y f x o = o
+quantified_free false y f x o = o
+
+mutual
+  pub normal_free : (b : Bool) (f : Formula) (x : ℕ) → IsFree x f → IsFree x (normal_form b f)
+  normal_free b True x o = absurd o
+  normal_free b False x o = absurd o
+  normal_free b (Atom a) x o = o
+  normal_free b (And fs) x o = connected_free b (normal_forms b fs) x (normals_free b fs x o)
+  normal_free b (Or fs) x o = connected_free (not b) (normal_forms b fs) x (normals_free b fs x o)
+  normal_free b (Not f) x o = normal_free (not b) f x o
+  normal_free b (Implies f g) x o = connected_free (not b) _ x (either_free_back (normal_free (not b) f x) (normal_free b g x) o)
+  normal_free b (Iff f g) x o = inl (either_free_back (normal_free true f x) (normal_free b g x) o)
+  normal_free b (Ex y f) x o = quantified_free b y (normal_form b f) x (o.0, normal_free b f x o.1)
+  normal_free b (All y f) x o = quantified_free (not b) y (normal_form b f) x (o.0, normal_free b f x o.1)
+
+  normals_free : (b : Bool) (fs : Formulas) (x : ℕ) → IsFreeInSome x fs → IsFreeInSome x (normal_forms b fs)
+  normals_free b no_more x o = o
+  normals_free b (more f fs) x o = elim o [ inl h ↦ inl (normal_free b f x h) | inr h ↦ inr (normals_free b fs x h) ]
+
+agreed_truth : (b : Bool) (f : Formula) (p : Point) → Is f true p ⊎ Is f false p → Is f (agreeing b true) p ⊎ Is f (agreeing b false) p
+agreed_truth true f p h = h
+agreed_truth false f p h = elim h [ inl t ↦ inr t | inr e ↦ inl e ]
+
+-- where the formula is decided, its normal form is
+pub decided_normal : (b : Bool) (f : Formula) → IsDecided f → IsDecided (normal_form b f)
+decided_normal b f settled p valid gives =
+    elim (agreed_truth b f p (settled p valid (λ x o. gives x (normal_free b f x o)))) [
+      | inl t ↦ inl ((normal_form_is b f true p).1 t)
+      | inr e ↦ inr ((normal_form_is b f false p).1 e)
+    ]
 
 pub normal_is_same : (f : Formula) → Same f (normal_form true f)
 normal_is_same f = record { free = λ x o. free_normal true f x o; agree = λ p valid gives c. let r = normal_form_is true f c p in (r.1, r.0) }

@@ -28,6 +28,12 @@ pub record IsPrenexOf (f : Formula) (given : List (List ℕ)) (p : Prenex) : Typ
 abbrev pub size : Formula → ℕ
 size f = count (normal_form true f)
 
+-- the prenex form; want of memory may come in its place
+abbrev pub PrenexAnswers : Formula → List (List ℕ) → Result Prenex NormStop → Type 0
+PrenexAnswers f names (Ok p) = IsPrenexOf f names p
+PrenexAnswers f names (Err (TooLarge n)) = ⊥
+PrenexAnswers f names (Err OutOfMemory) = Unit {0}
+
 -- the prenex form where it has at most 65,536 atoms, constants and quantifiers, and else 65,537; want of memory may come in place of either
 abbrev pub Answers : Formula → List (List ℕ) → Result Prenex NormStop → Type 0
 Answers f names (Ok p) = (size f ≤ 65536) × IsPrenexOf f names p

@@ -2,8 +2,12 @@
 //! Knows nothing of texts, nor of how quantifiers are eliminated.
 #![tactic(auto)]
 
+mod group;
 mod opening;
 mod prenex;
+mod size;
+#[cfg(test)]
+mod tests;
 mod walk;
 
 pub use opening::normal;

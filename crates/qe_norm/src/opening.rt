@@ -7,11 +7,28 @@ ghost use Rattle.qe_form.specs.Same.{Same};
 ghost use Rattle.qe_form.specs.Plain.{IsPlain};
 ghost use Rattle.qe_form.specs.Numbered as input_names;
 ghost use Rattle.qe_form.specs.Preserved.{Preserves, HasDecidedCore};
-ghost use Rattle.qe_norm.specs.Prenex.{Answers, IsWellNumbered, stands_for};
+ghost use Rattle.qe_norm.specs.Prenex.{Answers, PrenexAnswers, IsWellNumbered, stands_for};
 
+use crate::group::group;
 use crate::prenex::{NormStop, Prenex};
-use qe_form::Input;
+use crate::size::{MOST_COUNTED, size};
+use crate::walk::{Walk, open};
+use qe_form::{Form, Input, Names};
 use std::alloc::Global;
+
+/// The prenex form, built in one walk.
+pub fn prenex(alloc: Global, form: &Form, names: Names) -> Result<Prenex, NormStop>
+    ensures { PrenexAnswers (tree form.now) names result }
+{
+    let mut walk = Walk::new(alloc, names)?;
+    let matrix = open(alloc, &mut walk, form, true)?;
+    let blocks = group(alloc, &walk.prefix)?;
+    Ok(Prenex {
+        blocks,
+        matrix,
+        names: walk.names,
+    })
+}
 
 /// The prenex form. Implications and equivalences are opened and negations move to the atoms; the quantifiers, in the
 /// order of the text, form the blocks, and the rest is the matrix. The quantifiers of the parts of an equivalence come
@@ -32,6 +49,9 @@ pub fn normal(alloc: Global, input: Input) -> Result<Prenex, NormStop>
     ensures plain { IfOk result (λ p. IsPlain (tree p.matrix)) }
     ensures small { IfOk result (λ p. count (tree p.matrix) ≤ 65536) }
 {
-    let _stub = (alloc, input);
-    Err(NormStop::OutOfMemory)
+    let Input { form, names } = input;
+    if size(&form) == MOST_COUNTED {
+        return Err(NormStop::TooLarge(MOST_COUNTED));
+    }
+    prenex(alloc, &form, names)
 }

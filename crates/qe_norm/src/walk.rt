@@ -207,33 +207,19 @@ pub fn open(alloc: Global, walk: &mut Walk, form: &Form, plain: bool) -> Result<
             let second = open(alloc, walk, right, plain)?;
             pair(alloc, !plain, first, second)
         }
-        Form::Iff(left, right) => open_same(alloc, walk, left, right, plain),
+        Form::Iff(left, right) => {
+            // both or neither; in the negation one without the other
+            let first = open(alloc, walk, left, true)?;
+            let second = open(alloc, walk, right, plain)?;
+            let one = pair(alloc, true, first, second)?;
+            let third = open(alloc, walk, left, false)?;
+            let fourth = open(alloc, walk, right, !plain)?;
+            let other = pair(alloc, true, third, fourth)?;
+            pair(alloc, false, one, other)
+        }
         Form::Ex(var, body) => open_quantified(alloc, walk, kind_if(plain), *var, body, plain),
         Form::All(var, body) => open_quantified(alloc, walk, kind_if(!plain), *var, body, plain),
     }
-}
-
-/// An equivalence: both are true or both are false. In its negation one is true and the other false.
-#[cycle(open)]
-fn open_same(
-    alloc: Global,
-    walk: &mut Walk,
-    left: &Form,
-    right: &Form,
-    plain: bool,
-) -> Result<Form, OutOfMemory>
-    ensures walked { let w = walked walk.old.met.items walk.old.names in OnOk result (walked walk.new.met.items walk.new.names ≡ met_after (formula.Iff (tree left.now) (tree right.now)) w) }
-    ensures prefix { let w = walked walk.old.met.items walk.old.names in OnOk result (walk.new.prefix.items ≡ walk.old.prefix.items ++ quantifiers plain (formula.Iff (tree left.now) (tree right.now)) w) }
-    ensures renamings { OnOk result (walk.new.renamings.items ≡ walk.old.renamings.items) }
-    ensures matrix { let w = walked walk.old.met.items walk.old.names in IfOk result (λ f. tree f ≡ opened plain (formula.Iff (tree left.now) (tree right.now)) walk.old.renamings.items w) }
-{
-    let first = open(alloc, walk, left, true)?;
-    let second = open(alloc, walk, right, plain)?;
-    let one = pair(alloc, true, first, second)?;
-    let third = open(alloc, walk, left, false)?;
-    let fourth = open(alloc, walk, right, !plain)?;
-    let other = pair(alloc, true, third, fourth)?;
-    pair(alloc, false, one, other)
 }
 
 /// The body of a quantifier.

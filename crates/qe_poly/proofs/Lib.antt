@@ -20,3 +20,5 @@ pub mod Values
 pub mod ProductValues
 pub mod QuadraticValues
 pub mod RenamedValues
+pub mod RenamedMonomials
+pub mod RenamedTerms

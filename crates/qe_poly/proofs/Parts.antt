@@ -71,7 +71,7 @@ above_lower x y (c ∷ m) less above = omega arith
 
 -- ---- of two monomials with one exponent of a variable the order stays without it
 
-without-less : (x : ℕ) (m n : Monomial) → IsMonomial m → IsMonomial n → exponent_of x m ≡ exponent_of x n → monomial_cmp m n ≡ Less → monomial_cmp (without x m) (without x n) ≡ Less
+pub without-less : (x : ℕ) (m n : Monomial) → IsMonomial m → IsMonomial n → exponent_of x m ≡ exponent_of x n → monomial_cmp m n ≡ Less → monomial_cmp (without x m) (without x n) ≡ Less
 without-less x [] [] left right same less = tie_no_way less
 without-less x [] (b ∷ n) left right same less =
     elim (eqb b.var.0 x) as (λ test. 0 ≡ cond test b.exponent (exponent_of x n) → monomial_cmp [] (cond test n (b ∷ without x n)) ≡ Less) [

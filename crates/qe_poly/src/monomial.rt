@@ -7,6 +7,7 @@ ghost use Rattle.std.specs.Cmp.{partial_equiv_from_equiv, partial_order_from_own
 ghost use Rattle.std.specs.Cmp.Rules.{comparing};
 ghost use Rattle.qe_poly.specs.Monomial.{monomial_cmp, power, power_cmp, times, is_high};
 ghost use Rattle.qe_poly.specs.Coefficients.{exponent_of, without, lowered};
+ghost use Rattle.qe_poly.specs.Renamed.{stands_in, renamed_monomial};
 ghost use Rattle.qe_poly.specs.Equal.{monomial_eq, monomial_eq_equiv, monomial_fed, monomial_fed_alike};
 
 use std::alloc::{AllocError, Global};
@@ -256,6 +257,19 @@ impl Monomial {
     {
         let powers = powers_lowered(alloc, &self.powers, var)?;
         Ok(Monomial { powers })
+    }
+
+    /// The monomial with the variable `to`, which does not stand in it, in the place of `from`.
+    pub fn renamed(&self, alloc: Global, from: Var, to: Var) -> Result<Monomial, AllocError>
+        requires { stands_in to.0 self.now ≡ false }
+        ensures { IfOk result (λ m. m ≡ renamed_monomial from to self.now) }
+    {
+        let _ = &self.powers;
+        let power = Monomial::power(alloc, to, self.exponent_of(from))?;
+        match power.times(alloc, &self.without(alloc, from)?)? {
+            Some(monomial) => Ok(monomial),
+            None => unreachable!(),
+        }
     }
 
     /// Whether the product has an exponent over 65,535.

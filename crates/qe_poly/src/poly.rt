@@ -18,7 +18,7 @@ use crate::multiple::{derivative, multiple};
 use crate::part::part;
 use crate::primitive::{content, leads_negative, negated_if, quotients};
 use crate::product::multiply;
-use crate::rename::stands_in_some;
+use crate::rename::{renamed_terms, stands_in_some};
 use crate::sum::combine;
 use crate::term::Term;
 use qe_coef::{Coef, Op};
@@ -218,8 +218,12 @@ impl Poly {
     pub fn renamed(&self, alloc: Global, from: Var, to: Var) -> Result<Poly, AllocError>
         ensures { IfOk result (λ p. p ≡ renamed from to self.now) }
     {
-        let _stub = (alloc, from, to);
-        Err(AllocError)
+        if !stands_in_some(&self.terms, from) || stands_in_some(&self.terms, to) {
+            return self.copy(alloc);
+        }
+        let mut terms = renamed_terms(alloc, &self.terms, from, to)?;
+        terms.sort()?;
+        Ok(Poly { terms })
     }
 
     /// The terms, from the greatest monomial to the least.
@@ -358,6 +362,32 @@ mod tests {
             sum = sum.add(alloc, &Poly::power(alloc, var, exponent as u32)?)?;
         }
         Ok(sum)
+    }
+
+    #[test]
+    fn renames_a_variable(rt: HostRuntime) -> Result<(), Fail> {
+        let alloc = rt.alloc();
+        let x = Poly::power(alloc, Var(0), 1)?;
+        let y = Poly::power(alloc, Var(1), 1)?;
+        let z = Poly::power(alloc, Var(2), 1)?;
+        // x*y with z in the place of x is y*z, and y stands in it already
+        let product = x.mul(alloc, &y)?;
+        assert!(rt; product.renamed(alloc, Var(0), Var(2))? == y.mul(alloc, &z)?);
+        assert!(rt; product.renamed(alloc, Var(0), Var(1))? == product);
+        Ok(())
+    }
+
+    #[test]
+    fn sorts_what_it_renames(rt: HostRuntime) -> Result<(), Fail> {
+        let alloc = rt.alloc();
+        let x = Poly::power(alloc, Var(0), 2)?;
+        let y = Poly::power(alloc, Var(1), 1)?;
+        // x^2 + y with z in the place of x is y + z^2
+        let sum = x.add(alloc, &y)?;
+        let want = y.add(alloc, &Poly::power(alloc, Var(2), 2)?)?;
+        assert!(rt; sum.has(Var(0)) && !sum.has(Var(2)));
+        assert!(rt; sum.renamed(alloc, Var(0), Var(2))? == want);
+        Ok(())
     }
 
     #[test]

@@ -44,30 +44,54 @@ fn list(alloc: Global, first: Form, second: Form) -> Result<Forms, AllocError> {
     Ok(forms)
 }
 
-#[test]
-fn prints_polynomials(rt: HostRuntime) -> Result<(), Fail> {
-    let alloc = rt.alloc();
+/// Whether the polynomial is printed so.
+fn is_text(alloc: Global, poly: &Poly, want: &str) -> Result<bool, AllocError> {
     let names = names(alloc)?;
-    let least = number(alloc, -i128::MAX)?;
-    let cubic = power(alloc, 3, 3)?.sub(alloc, &power(alloc, 3, 1)?)?;
+    let text = poly_text(alloc, poly, &names)?;
+    Ok(text.as_slice() == want.as_bytes())
+}
+
+#[test]
+fn prints_numbers(rt: HostRuntime) -> Result<(), Fail> {
+    let alloc = rt.alloc();
     let rows = [
-        (number(alloc, 0)?, "0"),
-        (number(alloc, 1)?, "1"),
-        (number(alloc, -12)?, "-12"),
-        (least, "-170141183460469231731687303715884105727"),
-        (power(alloc, 3, 1)?, "x1"),
-        (power(alloc, 3, 2)?.neg(alloc)?, "-x1^2"),
-        (cubic, "x1^3 - x1"),
-        (discriminant(alloc)?, "4*a*c - b^2"),
-        (
-            discriminant(alloc)?.add(alloc, &number(alloc, 5)?)?,
-            "4*a*c - b^2 + 5",
-        ),
+        (0, "0"),
+        (1, "1"),
+        (-12, "-12"),
+        (-i128::MAX, "-170141183460469231731687303715884105727"),
     ];
-    for (poly, want) in &rows {
-        let text = poly_text(alloc, poly, &names)?;
-        assert_eq!(rt; text.as_slice(), want.as_bytes(), "{want}");
+    for (value, want) in rows {
+        let poly = number(alloc, value)?;
+        assert!(rt; is_text(alloc, &poly, want)?);
     }
+    Ok(())
+}
+
+#[test]
+fn prints_powers(rt: HostRuntime) -> Result<(), Fail> {
+    let alloc = rt.alloc();
+    let variable = power(alloc, 3, 1)?;
+    assert!(rt; is_text(alloc, &variable, "x1")?);
+    let square = power(alloc, 3, 2)?.neg(alloc)?;
+    assert!(rt; is_text(alloc, &square, "-x1^2")?);
+    Ok(())
+}
+
+#[test]
+fn prints_differences(rt: HostRuntime) -> Result<(), Fail> {
+    let alloc = rt.alloc();
+    let cubic = power(alloc, 3, 3)?.sub(alloc, &power(alloc, 3, 1)?)?;
+    assert!(rt; is_text(alloc, &cubic, "x1^3 - x1")?);
+    Ok(())
+}
+
+#[test]
+fn prints_coefficients(rt: HostRuntime) -> Result<(), Fail> {
+    let alloc = rt.alloc();
+    let discriminant = discriminant(alloc)?;
+    assert!(rt; is_text(alloc, &discriminant, "4*a*c - b^2")?);
+    let more = discriminant.add(alloc, &number(alloc, 5)?)?;
+    assert!(rt; is_text(alloc, &more, "4*a*c - b^2 + 5")?);
     Ok(())
 }
 

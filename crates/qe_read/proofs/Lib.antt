@@ -1,13 +1,13 @@
 mod Distinct
-mod Kept
-mod Named
-mod Numbers
+pub mod Kept
+pub mod Named
+pub mod Numbers
 mod Parts
 mod Powers
-mod Ranks
+pub mod Ranks
 mod Spelled
 mod Texts
 mod Unique
-mod Valued
-mod Variables
-mod Words
+pub mod Valued
+pub mod Variables
+pub mod Words

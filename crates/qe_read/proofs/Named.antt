@@ -60,11 +60,11 @@ marked ms = named (texts ms)
 joined : (whole a mid b rest : List Name) → whole ≡ a ++ mid → mid ≡ b ++ rest → whole ≡ (a ++ b) ++ rest
 joined whole a mid b rest h k = h ∙ ap (λ ns. a ++ ns) k ∙ sym (append_assoc a b rest)
 
-all_summed : (t : TermTree) (us : Addends) → all_in (summed t us) ≡ all_in t ++ all_in_addends us
+pub all_summed : (t : TermTree) (us : Addends) → all_in (summed t us) ≡ all_in t ++ all_in_addends us
 all_summed t no_addend = sym (append-nil (all_in t))
 all_summed t (addend p minus u us) = refl
 
-all_multiplied : (t : TermTree) (us : Factors) → all_in (multiplied t us) ≡ all_in t ++ all_in_factors us
+pub all_multiplied : (t : TermTree) (us : Factors) → all_in (multiplied t us) ≡ all_in t ++ all_in_factors us
 all_multiplied t no_factor = sym (append-nil (all_in t))
 all_multiplied t (factor p u us) = refl
 

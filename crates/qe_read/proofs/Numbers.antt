@@ -69,23 +69,23 @@ abbrev Binds : List Binder → ℕ → Type 0
 Binds [] x = ⊥
 Binds (b ∷ bs) x = (b.var.0 ≡ x) ⊎ Binds bs x
 
-abbrev names_of : List Binder → List Name
+abbrev pub names_of : List Binder → List Name
 names_of bs = map (λ b. b.name) bs
 
 -- what holds of a result, where there is one
-abbrev Gives : {A : Type 0} → (A → Type 0) → Result A Met → Type 0
+abbrev pub Gives : {A : Type 0} → (A → Type 0) → Result A Met → Type 0
 Gives P (Ok a) = P a
 Gives P (Err met) = Unit {0}
 
-gives_next : {A B : Type 0} (P : A → Type 0) (Q : B → Type 0) (v : Result A Met) (f : A → Result B Met) → Gives P v → ((a : A) → P a → Gives Q (f a)) → Gives Q (next v f)
+pub gives_next : {A B : Type 0} (P : A → Type 0) (Q : B → Type 0) (v : Result A Met) (f : A → Result B Met) → Gives P v → ((a : A) → P a → Gives Q (f a)) → Gives Q (next v f)
 gives_next P Q (Ok a) f h k = k a h
 gives_next P Q (Err met) f h k = tt
 
-gives_equal : {A B : Type 0} (Q : B → Type 0) (v : Result A Met) (f : A → Result B Met) → ((a : A) → v ≡ Ok a → Gives Q (f a)) → Gives Q (next v f)
+pub gives_equal : {A B : Type 0} (Q : B → Type 0) (v : Result A Met) (f : A → Result B Met) → ((a : A) → v ≡ Ok a → Gives Q (f a)) → Gives Q (next v f)
 gives_equal Q (Ok a) f k = k a refl
 gives_equal Q (Err met) f k = tt
 
-given : {A : Type 0} (P : A → Type 0) (v : Result A Met) (a : A) → v ≡ Ok a → Gives P v → P a
+pub given : {A : Type 0} (P : A → Type 0) (v : Result A Met) (a : A) → v ≡ Ok a → Gives P v → P a
 given P v a e h = subst (λ r. Gives P r) e h
 
 every : {X : Type 0} (P Q : X → Type 0) (xs : List X) → ((x : X) → P x → Q x) → AllByRecursion P xs → AllByRecursion Q xs
@@ -94,7 +94,7 @@ every P Q (x ∷ xs) f h = (f x h.0, every P Q xs f h.1)
 
 -- ---- the variables of names
 
-names_of-push : (bs : List Binder) (b : Binder) → names_of (bs ++ b ∷ []) ≡ names_of bs ++ b.name ∷ []
+pub names_of-push : (bs : List Binder) (b : Binder) → names_of (bs ++ b ∷ []) ≡ names_of bs ++ b.name ∷ []
 names_of-push [] b = refl
 names_of-push (a ∷ bs) b = ap (λ ns. a.name ∷ ns) (names_of-push bs b)
 
@@ -109,7 +109,7 @@ module _ (text : List ℕ) (free : List Letters) where
   abbrev Known : List Binder → ℕ → Type 0
   Known enclosing x = (x < length free) ⊎ Binds enclosing x
 
-  abbrev Listed : Name → Type 0
+  abbrev pub Listed : Name → Type 0
   Listed x = Contains free (letters text x)
 
   among_one : (b : Binder) (bs : List Binder) (o : Option Var) (same : Bool) (v : Var) → ((u : Var) → o ≡ Some u → Binds bs u.0)
@@ -127,7 +127,7 @@ module _ (text : List ℕ) (free : List Letters) where
   unbound_one x None true any h e = absurd (cc)
   unbound_one x None false any h e = h refl
 
-  unbound : (bs : List Binder) (w : Letters) → bound_to text bs w ≡ None → list_any (λ y. is_same (letters text y) w) (names_of bs) ≡ false
+  pub unbound : (bs : List Binder) (w : Letters) → bound_to text bs w ≡ None → list_any (λ y. is_same (letters text y) w) (names_of bs) ≡ false
   unbound [] w e = refl
   unbound (b ∷ bs) w e = unbound_one b.var (bound_to text bs w) (is_same (letters text b.name) w) (list_any (λ y. is_same (letters text y) w) (names_of bs)) (λ f. unbound bs w f) e
 
@@ -144,11 +144,11 @@ module _ (text : List ℕ) (free : List Letters) where
   listed_one P false x h e = h.0
 
   module _ (around : List Name) where
-    abbrev Free : Name → Type 0
+    abbrev pub Free : Name → Type 0
     Free x = is_bound text around x ≡ false → Listed x
 
     mutual
-      listed : (t : TermTree) → AllByRecursion Listed (free_in text around t) → AllByRecursion Free (all_in t)
+      pub listed : (t : TermTree) → AllByRecursion Listed (free_in text around t) → AllByRecursion Free (all_in t)
       listed (tree.Number n) h = tt
       listed (tree.Variable x) h = (listed_one ⊥ (is_bound text around x) x h, tt)
       listed (tree.Negative t) h = listed t h
@@ -242,7 +242,7 @@ module _ (text : List ℕ) (free : List Letters) where
 
   -- ---- the binders have the numbers that follow
 
-  abbrev numbered : ℕ → List Name → List ℕ
+  abbrev pub numbered : ℕ → List Name → List ℕ
   numbered n [] = []
   numbered n (x ∷ xs) = n ∷ numbered (suc n) xs
 
@@ -307,11 +307,11 @@ module _ (text : List ℕ) (free : List Letters) where
 
   -- ---- what follows of numbers in a row
 
-  abbrev Among : List ℕ → ℕ → Type 0
+  abbrev pub Among : List ℕ → ℕ → Type 0
   Among [] x = ⊥
   Among (y ∷ ys) x = (x ≡ y) ⊎ Among ys x
 
-  among_contained : (ys : List ℕ) (x : ℕ) → Contains ys x → Among ys x
+  pub among_contained : (ys : List ℕ) (x : ℕ) → Contains ys x → Among ys x
   among_contained [] x (k, h, e) = absurd (omega arith)
   among_contained (y ∷ ys) x (zero, h, e) = inl (sym e)
   among_contained (y ∷ ys) x (suc k, h, e) = inr (among_contained ys x (k, omega arith, e))
@@ -375,7 +375,7 @@ module _ (text : List ℕ) (free : List Letters) where
     free_or_bound_each x (form.more g gs) (inl o) = in_pair x (IsFree x g) (IsFreeInSome x gs) (binders g) (binders_each gs) (inl (free_or_bound x g o))
     free_or_bound_each x (form.more g gs) (inr o) = in_pair x (IsFree x g) (IsFreeInSome x gs) (binders g) (binders_each gs) (inr (free_or_bound_each x gs o))
 
-  all_listed : (names : List Name) → ((w : Letters) → Contains (map (letters text) names) w → Contains free w) → AllByRecursion Listed names
+  pub all_listed : (names : List Name) → ((w : Letters) → Contains (map (letters text) names) w → Contains free w) → AllByRecursion Listed names
   all_listed [] h = tt
   all_listed (x ∷ xs) h = (h (letters text x) (first (letters text x) (map (letters text) xs)), all_listed xs (λ w c. h w (later (letters text x) (map (letters text) xs) w c)))
 
@@ -398,10 +398,10 @@ module _ (text : List ℕ) (of : FormulaTree) (f : Formula) (names : List Letter
       elim (given (Frees text i.free []) (formula text i.free [] [] of) f i.is
       (frees text i.free [] [] of (all_listed text i.free (free_names text [] of) (λ w c. (i.letters_of.each w).1 c))) x o) [ inl h ↦ h | inr n ↦ absurd n ]
 
-  the_binders : binders f ≡ numbered text i.free (length i.free + 0) (bound_names of)
+  pub the_binders : binders f ≡ numbered text i.free (length i.free + 0) (bound_names of)
   the_binders = given (Binders text i.free [] of) (formula text i.free [] [] of) f i.is (bind text i.free [] [] of)
 
-  bound_between : (x : ℕ) → Among text i.free (binders f) x → (length i.free ≤ x) × (x < length names)
+  pub bound_between : (x : ℕ) → Among text i.free (binders f) x → (length i.free ≤ x) × (x < length names)
   bound_between x o =
       let h = among_numbered text i.free (length i.free + 0) (bound_names of) x (subst (λ bs. Among text i.free bs x) the_binders o) in
       (omega (arith, h.0), omega (arith, h.1, ap length i.named, length-append i.free (map (letters text) (bound_names of)), length-mapped (letters text) (bound_names of)))

@@ -53,7 +53,7 @@ module _ {X : Type 0} (key : X → Letters) where
   from_place w xs i s e k d m (inl q) = let h : letters_cmp (key (get_or xs k d)) w ≡ Equal = rw (← q) (e d) in ap is_lt h
   from_place w xs i s e k d m (inr q) = ap is_lt (found_above (key (get_or xs k d)) (key (get_or xs i d)) w (rises xs i k d s q m) (e d))
 
-  rank_found : (w : Letters) (xs : List X) (i : ℕ) → IsStrictlySortedBy letters_cmp (map key xs) → i < length xs → HoldsAt (λ y. letters_cmp (key y) w ≡ Equal) xs i → rank (map key xs) w ≡ i
+  pub rank_found : (w : Letters) (xs : List X) (i : ℕ) → IsStrictlySortedBy letters_cmp (map key xs) → i < length xs → HoldsAt (λ y. letters_cmp (key y) w ≡ Equal) xs i → rank (map key xs) w ≡ i
   rank_found w xs i s h e =
       rank_at w xs i (omega arith)
       (λ k d l. ap is_lt (found_below (key (get_or xs k d)) (key (get_or xs i d)) w (rises xs k i d s l h) (e d)))

@@ -15,7 +15,7 @@ use Rattle.qe_read.proofs.Kept.{front, behind}
 use Rattle.qe_read.proofs.Variables.{Have, of_negative, of_sum, of_difference, of_product, of_constant, of_power}
 
 -- a result behind another has both
-next_ok : {A B : Type 0} (v : Result A Met) (f : A → Result B Met) (b : B) → next v f ≡ Ok b → (a : A) × (v ≡ Ok a) × (f a ≡ Ok b)
+pub next_ok : {A B : Type 0} (v : Result A Met) (f : A → Result B Met) (b : B) → next v f ≡ Ok b → (a : A) × (v ≡ Ok a) × (f a ≡ Ok b)
 next_ok (Ok a) f b h = (a, refl, h)
 next_ok (Err met) f b h = absurd (cc)
 

@@ -13,7 +13,7 @@ use Rattle.qe_form.specs.Same.{OccursIn, OccursInSome}
 
 module _ (Q : ℕ → Type 0) where
   -- all variables of a monomial, and of monomials with something beside them
-  abbrev Has : Monomial → Type 0
+  abbrev pub Has : Monomial → Type 0
   Has m = AllByRecursion (λ a. Q a.var.0) m
 
   abbrev pub Have : {V : Type 0} → List (Monomial × V) → Type 0

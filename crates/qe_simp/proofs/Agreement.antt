@@ -1,6 +1,6 @@
 -- A formula and its simplified form are true at the same points, and false at the same.
-use Rattle.std.proofs.Common.{◌≡◌, ◌∙◌, sym, ap, refl, subst, Bool, true, false, not, cond, ◌&&◌, ◌||◌, ◌↔◌, ◌⊎◌, inl, inr, List, [], ◌∷◌, Option, Some, None}
-use Rattle.std.specs.List.{flat_map, list_any}
+use Rattle.std.proofs.Common.{◌≡◌, ◌∙◌, sym, ap, refl, subst, Bool, true, false, not, cond, ◌&&◌, ◌||◌, ◌↔◌, ◌⊎◌, inl, inr, List, [], ◌∷◌, Some, None}
+use Rattle.std.specs.List.{list_any}
 use Rattle.std.specs.declared.cmp.Ordering.{Ordering}
 use Rattle.std.specs.declared.cmp.Ordering.TheVariants as ordering
 use Rattle.std.specs.Ordering.{is_eq}
@@ -18,10 +18,9 @@ use Rattle.qe_form.specs.Order.{formula_cmp}
 use Rattle.qe_form.specs.OrderLaws.{formula_same}
 use Rattle.qe_simp.specs.declared.connective.Connective.{Connective}
 use Rattle.qe_simp.specs.declared.connective.Connective.TheVariants.{Conjunction, Disjunction}
-use Rattle.qe_simp.specs.Simplified.{neutral, deciding, connected, joined_signs, listed, parts_in, as_one, merged, in_order, decides, closed, decided, joint, simplified, simplified_each}
-use Rattle.qe_simp.specs.Meaning.{IsKnown}
-use Rattle.qe_simp.specs.Shape.{EachAtom, EachAtomOf}
-use Rattle.qe_simp.proofs.Atoms.{never_has, always_has}
+use Rattle.qe_simp.specs.Simplified.{neutral, deciding, connected, joined_signs, listed, parts_in, as_one, decides, closed, decided, joint, simplified, simplified_each}
+use Rattle.qe_simp.specs.Shape.{EachAtom, EachAtomOf, IsCanonical}
+use Rattle.qe_simp.proofs.Atoms.{never_has, always_has, canonical_agrees}
 use Rattle.qe_simp.proofs.Parts.{Each, Any, steps, Each-steps, Any-steps, steps-Any}
 
 -- the truth value that a formula with the connective has where each part has it
@@ -201,10 +200,10 @@ module _ (p : Point) where
 
   module _ (valid : IsPoint p) where
     mutual
-      pub agrees : (f : Formula) → EachAtom IsKnown f → (b : Bool) → Is f b p ↔ Is (simplified f) b p
+      pub agrees : (f : Formula) → EachAtom IsCanonical f → (b : Bool) → Is f b p ↔ Is (simplified f) b p
       agrees True atoms b = ((λ h. h), (λ h. h))
       agrees False atoms b = ((λ h. h), (λ h. h))
-      agrees (Atom a) atoms b = atoms.0 p valid b
+      agrees (Atom a) canonical b = canonical_agrees a canonical p valid b
       agrees (And fs) atoms true = let parts = agree_each fs atoms true in let whole = (joint_is Conjunction (simplified_each fs)).0 in ((λ h. whole.1 (parts.0 h)), (λ h. parts.1 (whole.0 h)))
       agrees (And fs) atoms false = let parts = agree_some fs atoms false in let whole = (joint_is Conjunction (simplified_each fs)).1 in ((λ h. whole.1 (parts.0 h)), (λ h. parts.1 (whole.0 h)))
       agrees (Or fs) atoms true = let parts = agree_some fs atoms true in let whole = (joint_is Disjunction (simplified_each fs)).1 in ((λ h. whole.1 (parts.0 h)), (λ h. parts.1 (whole.0 h)))
@@ -215,13 +214,13 @@ module _ (p : Point) where
       agrees (Ex x f) atoms b = ((λ h. h), (λ h. h))
       agrees (All x f) atoms b = ((λ h. h), (λ h. h))
 
-      agree_each : (fs : Formulas) → EachAtomOf IsKnown fs → (b : Bool) → EachIs fs b p ↔ Each (λ g. Is g b p) (simplified_each fs)
+      agree_each : (fs : Formulas) → EachAtomOf IsCanonical fs → (b : Bool) → EachIs fs b p ↔ Each (λ g. Is g b p) (simplified_each fs)
       agree_each no_more atoms b = ((λ h. h), (λ h. h))
       agree_each (more f fs) atoms b =
           let first = agrees f atoms.0 b in
           let rest = agree_each fs atoms.1 b in ((λ h. (first.0 h.0, rest.0 h.1)), (λ h. (first.1 h.0, rest.1 h.1)))
 
-      agree_some : (fs : Formulas) → EachAtomOf IsKnown fs → (b : Bool) → SomeIs fs b p ↔ Any (λ g. Is g b p) (simplified_each fs)
+      agree_some : (fs : Formulas) → EachAtomOf IsCanonical fs → (b : Bool) → SomeIs fs b p ↔ Any (λ g. Is g b p) (simplified_each fs)
       agree_some no_more atoms b = ((λ h. h), (λ h. h))
       agree_some (more f fs) atoms b =
           let first = agrees f atoms.0 b in

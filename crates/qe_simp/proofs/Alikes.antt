@@ -1,22 +1,19 @@
 -- Formulas that are alike have one simplified form.
-use Rattle.std.proofs.Common.{◌≡◌, ◌∙◌, sym, ap, refl, subst, ℕ, zero, suc, ◌<◌, length, Bool, true, false, cond, ◌||◌, eqb, List, [], ◌∷◌, ◌++◌, append_assoc, Option, Some, None, arith}
+use Rattle.std.proofs.Common.{◌≡◌, ◌∙◌, sym, ap, refl, subst, ℕ, zero, suc, ◌<◌, length, Bool, true, false, cond, List, [], ◌∷◌, ◌++◌, append_assoc, Option, arith}
 use Rattle.std.proofs.lemmas.List.{append-nil}
-use Rattle.std.proofs.lemmas.Bool.Decides.{nat_tests}
 use Rattle.std.specs.List.{flat_map, list_any, Contains}
 use Rattle.std.specs.Prelude.{slice_index_or}
 use Rattle.qe_form.specs.declared.signs.Signs.{Signs}
-use Rattle.qe_form.specs.Formula.{Formula, True, False, Atom, And, Or}
+use Rattle.qe_form.specs.Formula.{Formula, True, False}
 use Rattle.qe_form.specs.Tree.{trees_of}
 use Rattle.qe_simp.specs.declared.connective.Connective.{Connective}
 use Rattle.qe_simp.specs.declared.connective.Connective.TheVariants.{Conjunction, Disjunction}
-use Rattle.qe_simp.specs.Simplified.{deciding, connected, parts_in, decides, closed, decided, simplified, simplified_each}
+use Rattle.qe_simp.specs.Simplified.{deciding, connected, parts_in, decides, closed, simplified, simplified_each}
 use Rattle.qe_simp.specs.Alike.{Alike, itself, back, onward, flat, alone, same_parts, EachIsAmong, none, and_one}
 use Rattle.qe_simp.specs.Laws.{HaveSameParts}
-use Rattle.qe_simp.proofs.Lists.{listed_back}
-use Rattle.qe_simp.proofs.Parts.{Each, steps-Each}
 use Rattle.qe_simp.proofs.Contents.{join, join_none, join_comm, join_assoc, join_same, content, content-append, ordered, content-ordered}
 use Rattle.qe_simp.proofs.Deciding.{whole, same_whole, whole_longer}
-use Rattle.qe_simp.proofs.Stable.{Stable, simplified_stable, each_stable, whole_parts, own_closed}
+use Rattle.qe_simp.proofs.Stable.{simplified_stable, each_stable, whole_parts, own_closed}
 
 -- what formulas are joined from
 abbrev pieces : Connective → List Formula → List Formula

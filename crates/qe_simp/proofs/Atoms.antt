@@ -1,10 +1,10 @@
 -- An atom and its simplified form are true at the same points.
-use Rattle.std.proofs.Common.{◌≡◌, ◌∙◌, sym, ap, refl, subst, ℕ, zero, suc, ◌<◌, eqb, Bool, true, false, cond, ◌↔◌, ℤ, pos, neg_ℤ, ◌+ℤ◌, Option, Some, None, [], ◌∷◌, arith}
+use Rattle.std.proofs.Common.{◌≡◌, ◌∙◌, sym, ap, refl, subst, ℕ, zero, suc, ◌<◌, eqb, Bool, true, false, cond, ◌↔◌, ℤ, pos, neg_ℤ, Option, Some, None, [], ◌∷◌, arith}
 use Rattle.std.proofs.Math.IntN.{+ℤ_idr}
 use Rattle.std.proofs.lemmas.Bool.Decides.{Decides-int_eq, nat_tests}
 use Rattle.std.specs.Ordering.{int_eq}
 use Rattle.qe_ring.specs.Sign.{Sign, Minus, Zero, Plus, int_sign, opposite, ◌·◌}
-use Rattle.qe_tower.specs.Number.{sign_of, whole_number, mul}
+use Rattle.qe_tower.specs.Number.{sign_of, whole_number}
 use Rattle.qe_tower.specs.Point.{Point, IsPoint}
 use Rattle.qe_tower.proofs.ValidNumbers.{ValidNumber, valid_operations, valid_ordered}
 use Rattle.qe_poly.specs.Polynomial.{Polynomial, constant, coefficient}
@@ -18,9 +18,11 @@ use Rattle.qe_form.specs.Formula.{Formula, True, False, Atom}
 use Rattle.qe_form.specs.Value.{value}
 use Rattle.qe_form.specs.Truth.{has_sign, Is}
 use Rattle.qe_form.proofs.Values.{value_of_multiple, value_valid}
-use Rattle.qe_simp.specs.Simplified.{truth, as_number, primitive_atom, on_number, simplified_atom}
+use Rattle.qe_simp.specs.Simplified.{truth, as_number, on_number, simplified_atom}
 use Rattle.qe_simp.specs.Meaning.{AgreesEverywhere}
+use Rattle.qe_simp.specs.Shape.{IsCanonical}
 use Rattle.qe_simp.proofs.Numbers.{sign_of-constant}
+use Rattle.qe_simp.proofs.Primitive.{multiple_of_primitive}
 
 -- ---- polynomials that are numbers
 
@@ -124,25 +126,35 @@ by_signs a f agree = by_tests (eqb (bits a.signs) 0) (eqb (bits a.signs) 7) refl
     by_tests false true none all = always a true (λ p. always_has a.signs (sign_of (value a.poly p)) all)
     by_tests false false none all = agree
 
-pub decided_agrees : (a : atom.Atom) (c : ℤ) → a.poly ≡ constant c → AgreesEverywhere (Atom a) (simplified_atom a)
+decided_agrees : (a : atom.Atom) (c : ℤ) → a.poly ≡ constant c → AgreesEverywhere (Atom a) (simplified_atom a)
 decided_agrees a c same =
     by_signs a (on_number a (as_number a.poly)) (subst (λ o. AgreesEverywhere (Atom a) (on_number a o)) (sym (number_from a.poly c same))
     (always a (has_sign a.signs (int_sign c)) (λ p. ap (λ q. has_sign a.signs (sign_of (value q p))) same ∙ ap (has_sign a.signs) (sign_of-constant c p))))
 
-pub primitive_agrees : (a : atom.Atom) → ((c : ℤ) → a.poly ≡ constant c → ⊥) → IsMultiple a.poly (primitive a.poly) (leads_negative a.poly) → AgreesEverywhere (Atom a) (simplified_atom a)
+primitive_agrees : (a : atom.Atom) → ((c : ℤ) → a.poly ≡ constant c → ⊥) → IsMultiple a.poly (primitive a.poly) (leads_negative a.poly) → AgreesEverywhere (Atom a) (simplified_atom a)
 primitive_agrees a none multiple =
     by_signs a (on_number a (as_number a.poly)) (subst (λ o. AgreesEverywhere (Atom a) (on_number a o)) (sym (no_number a.poly none))
     (λ p valid b. let same = multiple_has a.signs a.poly (primitive a.poly) (leads_negative a.poly) multiple p valid in ((λ e. sym same ∙ e), (λ e. same ∙ e))))
 
-pub no_sign_agrees : (a : atom.Atom) → eqb (bits a.signs) 0 ≡ true → AgreesEverywhere (Atom a) (simplified_atom a)
-no_sign_agrees a test =
-    subst (λ b. AgreesEverywhere (Atom a) (cond b False (cond (eqb (bits a.signs) 7) True (on_number a (as_number a.poly))))) (sym test)
-    (always a false (λ p. never_has a.signs (sign_of (value a.poly p)) test))
+pub not_constant : (p : Polynomial) → as_number p ≡ None → (c : ℤ) → p ≡ constant c → ⊥
+not_constant p none c same = absurd (no_some (sym (number_from p c same) ∙ none))
+  where
+    no_some : Some c ≡ None → ⊥
+    no_some is = absurd (cc)
 
-pub all_signs_agree : (a : atom.Atom) → eqb (bits a.signs) 0 ≡ false → eqb (bits a.signs) 7 ≡ true → AgreesEverywhere (Atom a) (simplified_atom a)
-all_signs_agree a some test =
-    subst (λ b. AgreesEverywhere (Atom a) (cond b False (cond (eqb (bits a.signs) 7) True (on_number a (as_number a.poly))))) (sym some)
-    (subst (λ b. AgreesEverywhere (Atom a) (cond b True (on_number a (as_number a.poly)))) (sym test) (always a true (λ p. always_has a.signs (sign_of (value a.poly p)) test)))
+is_constant : (p : Polynomial) (c : ℤ) → as_number p ≡ Some c → p ≡ constant c
+is_constant p c = by_test (poly_eq p (constant (coefficient p []))) refl
+  where
+    by_test : (b : Bool) → poly_eq p (constant (coefficient p [])) ≡ b → cond b (Some (coefficient p [])) None ≡ Some c → p ≡ constant c
+    by_test true test is = let same : coefficient p [] ≡ c = cc in poly_tells p (constant (coefficient p [])) test ∙ ap constant same
+    by_test false test is = absurd (cc)
+
+pub canonical_agrees : (a : atom.Atom) → IsCanonical a → AgreesEverywhere (Atom a) (simplified_atom a)
+canonical_agrees a canonical = by_number (as_number a.poly) refl
+  where
+    by_number : (o : Option ℤ) → as_number a.poly ≡ o → AgreesEverywhere (Atom a) (simplified_atom a)
+    by_number None is = primitive_agrees a (not_constant a.poly is) (multiple_of_primitive a.poly canonical (not_constant a.poly is))
+    by_number (Some c) is = decided_agrees a c (is_constant a.poly c is)
 
 -- ---- the simplified atom as the code makes it
 
@@ -155,6 +167,3 @@ primitive_is a q s m n first some second not_all none poly signs =
     (λ i. Atom (record { poly = poly i; signs = signs i }))
     ∙ sym ((λ i. cond (untrue (bits a.signs) 0 (λ e. some (first ∙ e)) i) False (cond (untrue (bits a.signs) 7 (λ e. not_all (second ∙ e)) i) True (on_number a (as_number a.poly))))
     ∙ ap (on_number a) (no_number a.poly none))
-
-pub multiple_of : (p q : Polynomial) (b : Bool) → q ≡ primitive p → b ≡ leads_negative p → IsMultiple p q b → IsMultiple p (primitive p) (leads_negative p)
-multiple_of p q b poly signs multiple = (multiple.0, multiple.1, multiple.2 ∙ λ i. scaled (negated_if (signs i) multiple.0) (poly i))

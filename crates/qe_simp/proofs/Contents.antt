@@ -1,21 +1,17 @@
 -- What stands in a list at each key: the signs of all parts with that key, joined. The merged parts in order are determined by it.
-use Rattle.std.proofs.Common.{◌≡◌, ◌∙◌, sym, ap, refl, subst, Bool, true, false, cond, ◌||◌, eqb, List, [], ◌∷◌, ◌++◌, Option, Some, None}
-use Rattle.std.specs.List.{list_any}
+use Rattle.std.proofs.Common.{◌≡◌, ◌∙◌, sym, ap, refl, subst, Bool, true, false, cond, List, [], ◌∷◌, ◌++◌, Option, Some, None}
 use Rattle.std.specs.declared.cmp.Ordering.{Ordering}
 use Rattle.std.specs.declared.cmp.Ordering.TheVariants.{Less, Equal, Greater}
 use Rattle.std.specs.Ordering.{is_eq, is_gt, ordering_reverse}
 use Rattle.std.specs.Cmp.{tied_itself}
-use Rattle.std.proofs.lemmas.Bool.{eqb-true}
 use Rattle.qe_form.specs.declared.signs.Signs.{Signs}
-use Rattle.qe_form.specs.Signs.{bits}
-use Rattle.qe_form.specs.Formula.{Formula, Atom}
+use Rattle.qe_form.specs.Formula.{Formula}
 use Rattle.qe_form.specs.Order.{formula_cmp}
-use Rattle.qe_form.specs.OrderLaws.{formula_total, formula_same, bits_same}
+use Rattle.qe_form.specs.OrderLaws.{formula_total, formula_same}
 use Rattle.qe_simp.specs.declared.connective.Connective.{Connective}
-use Rattle.qe_simp.specs.declared.connective.Connective.TheVariants.{Conjunction, Disjunction}
-use Rattle.qe_simp.specs.Simplified.{joined_signs, insert, in_order, as_one, one_or_two, merged_from, merged, decides}
-use Rattle.qe_simp.proofs.Keys.{no_signs, key, signs_of, with_signs, rebuilt, same_part, joined_comm, joined_assoc, joined_same, equal_tie, One, one_of, apart_of, key_up}
-use Rattle.qe_simp.proofs.Sorting.{IsUpToFirst, Rising, Rising-in_order}
+use Rattle.qe_simp.specs.Simplified.{joined_signs, insert, in_order, as_one, one_or_two, merged_from, merged}
+use Rattle.qe_simp.proofs.Keys.{key, signs_of, same_part, joined_comm, joined_assoc, joined_same, equal_tie, One, one_of, apart_of, key_up}
+use Rattle.qe_simp.proofs.Sorting.{Rising, Rising-in_order}
 
 -- ---- signs that may be missing
 

@@ -1,5 +1,5 @@
 -- One more formula among those that are simplified to parts.
-use Rattle.std.proofs.Common.{◌≡◌, ◌∙◌, sym, ap, refl, subst, List, [], ◌∷◌, ◌++◌, append_assoc, map}
+use Rattle.std.proofs.Common.{◌≡◌, ◌∙◌, sym, ap, subst, List, [], ◌∷◌, ◌++◌, append_assoc, map}
 use Rattle.std.proofs.lemmas.List.{append-nil}
 use Rattle.std.specs.List.{flat_map}
 use Rattle.qe_form.specs.declared.form.Form.{Form}
@@ -8,8 +8,7 @@ use Rattle.qe_form.specs.Tree.{tree, trees}
 use Rattle.qe_form.proofs.Trees.{appended, trees_push}
 use Rattle.qe_simp.specs.declared.connective.Connective.{Connective}
 use Rattle.qe_simp.specs.Simplified.{parts_in, simplified, simplified_each}
-use Rattle.qe_simp.specs.Meaning.{IsKnown}
-use Rattle.qe_simp.specs.Shape.{EachAtom, EachAtomOf}
+use Rattle.qe_simp.specs.Shape.{EachAtom, EachAtomOf, IsCanonical}
 
 gathered_appended : (k : Connective) (fs : Formulas) (f : Formula) → flat_map (parts_in k) (simplified_each (appended fs f)) ≡ flat_map (parts_in k) (simplified_each fs) ++ parts_in k (simplified f)
 gathered_appended k no_more f = append-nil (parts_in k (simplified f))
@@ -22,9 +21,9 @@ gathered_more k old new done form simple before made added =
     added ∙ ((λ i. before i ++ parts_in k (made i))
     ∙ sym (ap (λ ts. flat_map (parts_in k) (simplified_each ts)) (trees_push done form) ∙ gathered_appended k (trees done) (tree form)))
 
-atoms_appended : (fs : Formulas) (f : Formula) → EachAtomOf IsKnown fs → EachAtom IsKnown f → EachAtomOf IsKnown (appended fs f)
-atoms_appended no_more f each last = (last, tt)
-atoms_appended (more g fs) f each last = (each.0, atoms_appended fs f each.1 last)
+canonical_appended : (fs : Formulas) (f : Formula) → EachAtomOf IsCanonical fs → EachAtom IsCanonical f → EachAtomOf IsCanonical (appended fs f)
+canonical_appended no_more f each last = (last, tt)
+canonical_appended (more g fs) f each last = (each.0, canonical_appended fs f each.1 last)
 
-pub atoms_more : (done : List Form) (form : Form) → EachAtomOf IsKnown (trees done) → EachAtom IsKnown (tree form) → EachAtomOf IsKnown (trees (done ++ form ∷ []))
-atoms_more done form each last = subst (EachAtomOf IsKnown) (sym (trees_push done form)) (atoms_appended (trees done) (tree form) each last)
+pub canonical_more : (done : List Form) (form : Form) → EachAtomOf IsCanonical (trees done) → EachAtom IsCanonical (tree form) → EachAtomOf IsCanonical (trees (done ++ form ∷ []))
+canonical_more done form each last = subst (EachAtomOf IsCanonical) (sym (trees_push done form)) (canonical_appended (trees done) (tree form) each last)

@@ -1,5 +1,5 @@
 -- What parts are merged by: the polynomial of an atom, or the whole of any other formula, which stand in the order of formulas.
-use Rattle.std.proofs.Common.{◌≡◌, ◌∙◌, sym, ap, refl, subst, Bool, true, false, cond, List, [], ◌∷◌, Option, Some, None}
+use Rattle.std.proofs.Common.{◌≡◌, ◌∙◌, sym, ap, refl, Bool, true, false, cond, Some, None}
 use Rattle.std.specs.declared.cmp.Ordering.{Ordering}
 use Rattle.std.specs.declared.cmp.Ordering.TheVariants.{Less, Equal, Greater}
 use Rattle.std.specs.Ordering.{is_eq, is_gt, nat_cmp, ordering_then}
@@ -9,9 +9,9 @@ use Rattle.qe_poly.specs.Order.{poly_cmp, poly_ties}
 use Rattle.qe_form.specs.declared.signs.Signs.{Signs}
 use Rattle.qe_form.specs.declared.form.Atom as atom
 use Rattle.qe_form.specs.Signs.{bits}
-use Rattle.qe_form.specs.Formula.{Formula, True, False, Atom, And, Or, Not, Implies, Iff, Ex, All}
+use Rattle.qe_form.specs.Formula.{Formula, Atom}
 use Rattle.qe_form.specs.Order.{formula_cmp}
-use Rattle.qe_form.specs.OrderLaws.{formula_total, formula_same}
+use Rattle.qe_form.specs.OrderLaws.{formula_same}
 use Rattle.qe_simp.specs.declared.connective.Connective.{Connective}
 use Rattle.qe_simp.specs.declared.connective.Connective.TheVariants.{Conjunction, Disjunction}
 use Rattle.qe_simp.specs.Simplified.{joined_signs, as_one}

@@ -1,5 +1,5 @@
 -- The value of a constant polynomial, and the sign of a number as a set of signs.
-use Rattle.std.proofs.Common.{◌≡◌, ◌∙◌, sym, ap, refl, true, false, not, cond, ℤ, pos, ◌+ℤ◌, ◌*ℤ◌, [], ◌∷◌, arith}
+use Rattle.std.proofs.Common.{◌≡◌, sym, ap, refl, true, false, not, cond, ℤ, pos, ◌+ℤ◌, ◌*ℤ◌, [], ◌∷◌, arith}
 use Rattle.std.specs.Prelude.{nat_eq}
 use Rattle.std.proofs.lemmas.Int.{ints}
 use Rattle.std.proofs.lemmas.Bool.Decides.{Decides-int_eq}

@@ -1,16 +1,14 @@
 -- The primitive polynomial of a canonical polynomial that is no number is canonical, no number, and its own primitive polynomial.
-use Rattle.std.proofs.Common.{◌≡◌, ◌≢◌, ◌∙◌, sym, ap, refl, subst, ℕ, zero, suc, ◌+◌, ◌*◌, ◌%◌, ◌<◌, ◌≤◌, Bool, true, false, cond, ◌↔◌, ℤ, pos, negsuc, neg_ℤ, ◌*ℤ◌, unsigned_abs, [], ◌∷◌, arith}
+use Rattle.std.proofs.Common.{◌≡◌, ◌≢◌, ◌∙◌, sym, ap, refl, subst, ℕ, zero, suc, ◌*◌, ◌%◌, ◌<◌, ◌≤◌, Bool, true, false, cond, ℤ, pos, negsuc, ◌*ℤ◌, unsigned_abs, [], ◌∷◌, arith}
 use Rattle.std.proofs.Math.Nat.{one-dvd, eq-one_of_dvd-one, mul-dvd-mul_right, dvd_of_mul-dvd-mul_right, mod-lt}
-use Rattle.std.proofs.Math.IntN.{*ℤ_comm}
 use Rattle.std.proofs.lemmas.Int.{ints, unsigned_abs-mul}
-use Rattle.std.proofs.lemmas.Nat.Gcd.{dvd-zero, dvd_refl, dvd_trans, IsGcd-from_mod, IsGcd-from_zero}
-use Rattle.std.proofs.lemmas.Bool.Decides.{Decides-int_eq, nat_tests}
+use Rattle.std.proofs.lemmas.Nat.Gcd.{dvd-zero, dvd_trans, IsGcd-from_mod, IsGcd-from_zero}
+use Rattle.std.proofs.lemmas.Bool.Decides.{nat_tests}
 use Rattle.std.specs.Ordering.{int_eq}
 use Rattle.std.specs.Int.{◌∣◌, IsGcd}
 use Rattle.std.specs.Int.RustNames.{int_div, int_lt}
-use Rattle.qe_ring.specs.Sign.{Sign, Minus, Zero, Plus, int_sign, ◌·◌}
+use Rattle.qe_ring.specs.Sign.{Minus, Plus, int_sign, ◌·◌}
 use Rattle.qe_ring.proofs.Ints.{int_ordered}
-use Rattle.qe_coef.specs.Range.{Divides}
 use Rattle.qe_poly.specs.Polynomial.{Term, Polynomial, IsPolynomial, constant}
 use Rattle.qe_poly.specs.Value.{scaled}
 use Rattle.qe_poly.specs.Primitive.{leads_negative, negated_if, divided, primitive, IsMultiple, DividesEach, IsContent}
@@ -133,13 +131,20 @@ module _ (t : Term) (ts : Polynomial) (poly : IsPolynomial (t ∷ ts)) (none : (
 nonempty : (t : Term) (ts : Polynomial) → t ∷ ts ≢ []
 nonempty t ts same = absurd (cc)
 
+known_of : (t : Term) (ts : Polynomial) → IsPolynomial (t ∷ ts) → (g : ℕ) × IsContent (suc g) (t ∷ ts) × Divided (t ∷ ts) (negated_if (leads_negative (t ∷ ts)) (suc g))
+known_of t ts poly = let found = content_of (t ∷ ts) in by_content found.0 found.1 (content_positive t ts poly.0 found.0 found.1)
+  where
+    by_content : (g : ℕ) → IsContent g (t ∷ ts) → 0 < g → (g : ℕ) × IsContent (suc g) (t ∷ ts) × Divided (t ∷ ts) (negated_if (leads_negative (t ∷ ts)) (suc g))
+    by_content zero content positive = absurd (omega arith)
+    by_content (suc g) content positive = (g, content, divided_by_content (t ∷ ts) poly (nonempty t ts) (negated_if (leads_negative (t ∷ ts)) (suc g)) (suc g) content refl)
+
 pub primitive_of : (p : Polynomial) → IsPolynomial p → ((c : ℤ) → p ≢ constant c) → IsPrimitive (primitive p)
 primitive_of [] poly none = absurd (none (pos 0) refl)
-primitive_of (t ∷ ts) poly none = let found = content_of (t ∷ ts) in by_content found.0 found.1 (content_positive t ts poly.0 found.0 found.1)
-  where
-    by_content : (g : ℕ) → IsContent g (t ∷ ts) → 0 < g → IsPrimitive (primitive (t ∷ ts))
-    by_content zero content positive = absurd (omega arith)
-    by_content (suc g) content positive =
-        let d = negated_if (leads_negative (t ∷ ts)) (suc g) in
-        let known = divided_by_content (t ∷ ts) poly (nonempty t ts) d (suc g) content refl in
-        subst IsPrimitive known.is_primitive (quotients_primitive t ts poly none g content d refl known)
+primitive_of (t ∷ ts) poly none =
+    let known = known_of t ts poly in
+    subst IsPrimitive known.2.is_primitive (quotients_primitive t ts poly none known.0 known.1 (negated_if (leads_negative (t ∷ ts)) (suc known.0)) refl known.2)
+
+pub multiple_of_primitive : (p : Polynomial) → IsPolynomial p → ((c : ℤ) → p ≢ constant c) → IsMultiple p (primitive p) (leads_negative p)
+multiple_of_primitive [] poly none = absurd (none (pos 0) refl)
+multiple_of_primitive (t ∷ ts) poly none =
+    let known = known_of t ts poly in subst (λ q. IsMultiple (t ∷ ts) q (leads_negative (t ∷ ts))) known.2.is_primitive known.2.is_multiple

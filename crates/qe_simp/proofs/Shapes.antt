@@ -1,8 +1,8 @@
 -- The atoms of a simplified formula are simple, and it is plain where the formula is.
-use Rattle.std.proofs.Common.{◌≡◌, ◌≢◌, ◌∙◌, sym, ap, refl, subst, Bool, true, false, cond, eqb, ◌⊎◌, inl, inr, ℤ, List, [], ◌∷◌, Option, Some, None}
+use Rattle.std.proofs.Common.{◌≡◌, sym, refl, subst, Bool, true, false, cond, eqb, inl, inr, ℤ, List, [], ◌∷◌, Option, Some, None}
 use Rattle.std.specs.List.{list_any}
 use Rattle.qe_ring.specs.Sign.{int_sign}
-use Rattle.qe_poly.specs.Polynomial.{Polynomial, IsPolynomial, constant}
+use Rattle.qe_poly.specs.Polynomial.{Polynomial}
 use Rattle.qe_form.specs.declared.form.Atom as atom
 use Rattle.qe_form.specs.Signs.{bits, IsProper}
 use Rattle.qe_form.specs.Formula.{Formula, Formulas, True, False, Atom, And, Or, Not, Implies, Iff, Ex, All, no_more, more}
@@ -12,9 +12,9 @@ use Rattle.qe_form.specs.Same.{HasNoQuantifier, HaveNoQuantifier}
 use Rattle.qe_form.specs.Plain.{IsPlain, IsPlainWith, ArePlainWith, IsPlainAndProper}
 use Rattle.qe_simp.specs.declared.connective.Connective.{Connective}
 use Rattle.qe_simp.specs.declared.connective.Connective.TheVariants.{Conjunction, Disjunction}
-use Rattle.qe_simp.specs.Simplified.{truth, as_number, on_number, simplified_atom, neutral, deciding, connected, listed, parts_in, as_one, decides, closed, joint, simplified, simplified_each}
+use Rattle.qe_simp.specs.Simplified.{truth, as_number, on_number, simplified_atom, deciding, connected, listed, parts_in, as_one, decides, closed, joint, simplified, simplified_each}
 use Rattle.qe_simp.specs.Shape.{IsPrimitive, IsSimple, IsSimplified, EachAtom, EachAtomOf, IsCanonical}
-use Rattle.qe_simp.proofs.Atoms.{number_from}
+use Rattle.qe_simp.proofs.Atoms.{not_constant}
 use Rattle.qe_simp.proofs.Parts.{Each, steps, steps-Each}
 use Rattle.qe_simp.proofs.Sizes.{one_is}
 use Rattle.qe_simp.proofs.Primitive.{primitive_of}
@@ -77,12 +77,6 @@ module _ (R : Polynomial → Type 0) where
 
   atoms_joint : (k : Connective) (fs : List Formula) → Each Has fs → Has (joint k fs)
   atoms_joint = joint_keeps Has atoms_constant atoms_in atoms_one atoms_connected
-
-not_constant : (p : Polynomial) → as_number p ≡ None → (c : ℤ) → p ≢ constant c
-not_constant p none c same = absurd (no_some (sym (number_from p c same) ∙ none))
-  where
-    no_some : Some c ≡ None → ⊥
-    no_some is = absurd (cc)
 
 primitive_atoms : (a : atom.Atom) → IsCanonical a → EachAtom (λ b. IsPrimitive b.poly) (simplified_atom a)
 primitive_atoms a canonical = by_tests (eqb (bits a.signs) 0) (eqb (bits a.signs) 7)

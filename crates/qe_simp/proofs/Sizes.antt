@@ -1,6 +1,6 @@
 -- The simplified form has no further free variable, and no more atoms and constants, or one.
 use Rattle.std.proofs.Common.{ℕ, ◌+◌, ◌≤◌, max, eqb, ◌≡◌, refl, sym, ap, subst, Bool, true, false, cond, ◌||◌, ◌⊎◌, inl, inr, List, [], ◌∷◌, Option, Some, None, ℤ, arith}
-use Rattle.std.specs.List.{flat_map, list_any}
+use Rattle.std.specs.List.{list_any}
 use Rattle.std.specs.Ordering.{is_eq}
 use Rattle.qe_ring.specs.Sign.{int_sign}
 use Rattle.qe_poly.specs.Polynomial.{Polynomial}

@@ -1,25 +1,25 @@
 -- Simplified formulas are stable: their atoms have proper signs, each part of an And or Or is its own part, and together the parts are
 -- the whole again. So simplifying changes at most their polynomials.
-use Rattle.std.proofs.Common.{◌≡◌, ◌∙◌, sym, ap, refl, subst, ℕ, zero, suc, ◌+◌, ◌*◌, ◌<◌, eqb, Bool, true, false, cond, ◌&&◌, ◌||◌, ◌⊎◌, inl, inr, ℤ, List, [], ◌∷◌, ◌++◌, Option, Some, None, arith}
+use Rattle.std.proofs.Common.{◌≡◌, ◌∙◌, sym, ap, refl, subst, ℕ, ◌<◌, eqb, Bool, true, false, cond, ◌&&◌, ◌||◌, inl, inr, ℤ, List, [], ◌∷◌, ◌++◌, Option, Some, None, arith}
 use Rattle.std.specs.List.{flat_map, list_any}
 use Rattle.std.proofs.lemmas.Bool.Decides.{nat_tests}
 use Rattle.qe_ring.specs.Sign.{int_sign}
 use Rattle.qe_poly.specs.Primitive.{leads_negative}
 use Rattle.qe_form.specs.declared.signs.Signs.{Signs}
 use Rattle.qe_form.specs.declared.form.Atom as atom
-use Rattle.qe_form.specs.Signs.{bit, bits, mirror, IsProper}
+use Rattle.qe_form.specs.Signs.{bits, mirror, IsProper}
 use Rattle.qe_form.specs.Formula.{Formula, Formulas, True, False, Atom, And, Or, Not, Implies, Iff, Ex, All, no_more, more}
 use Rattle.qe_form.specs.Tree.{trees_of}
 use Rattle.qe_form.specs.Truth.{has_sign}
 use Rattle.qe_simp.specs.declared.connective.Connective.{Connective}
 use Rattle.qe_simp.specs.declared.connective.Connective.TheVariants.{Conjunction, Disjunction}
-use Rattle.qe_simp.specs.Simplified.{truth, as_number, primitive_atom, on_number, simplified_atom, neutral, deciding, connected, joined_signs, listed, parts_in, as_one, decides, closed, decided, joint, simplified, simplified_each}
+use Rattle.qe_simp.specs.Simplified.{truth, as_number, on_number, simplified_atom, deciding, connected, joined_signs, listed, parts_in, as_one, decides, closed, decided, joint, simplified, simplified_each}
 use Rattle.qe_simp.specs.Shape.{IsPrimitive, EachAtom, EachAtomOf}
 use Rattle.qe_simp.proofs.Lists.{listed_back}
 use Rattle.qe_simp.proofs.Atoms.{primitive_is}
 use Rattle.qe_simp.proofs.Parts.{Each, steps, steps-Each}
 use Rattle.qe_simp.proofs.Sizes.{one_is}
-use Rattle.qe_simp.proofs.Contents.{ordered, Ascending, ascending_ordered, ordered_again}
+use Rattle.qe_simp.proofs.Contents.{Ascending, ascending_ordered, ordered_again}
 use Rattle.qe_simp.proofs.Deciding.{whole, still_decides}
 
 -- ---- stable formulas

@@ -6,8 +6,13 @@ use Rattle.qe_form.specs.Tree.{trees_of}
 use Rattle.qe_form.specs.Same.{HasNoQuantifier}
 use Rattle.qe_form.specs.Plain.{IsPlain, IsPlainWith, IsPlainAndProper}
 use Rattle.qe_simp.specs.Simplified.{simplified}
+use Rattle.qe_simp.specs.Meaning.{Keeps}
 use Rattle.qe_simp.specs.Shape.{IsSimplified, EachAtom, IsCanonical}
 use Rattle.qe_simp.specs.Alike.{Alike}
+
+-- where the polynomials are canonical, simplifying keeps truth and falsity, adds no free variable, and leaves at most as many atoms and constants, or one
+abbrev pub SimplifiedKeeps : Type 0
+SimplifiedKeeps = (f : Formula) → EachAtom IsCanonical f → Keeps f (simplified f)
 
 -- where the polynomials are canonical, simplifying twice is simplifying once
 abbrev pub Idempotent : Type 0

@@ -3,16 +3,14 @@ use Rattle.std.specs.Prelude.{ℕ, ◌≤◌, max, ◌≡◌, true, false, Some,
 use Rattle.qe_ring.specs.Sign.{Sign, Minus, Zero, Plus}
 use Rattle.qe_tower.specs.Point.{Point, IsPoint}
 use Rattle.qe_form.specs.declared.signs.Signs.{Signs}
-use Rattle.qe_form.specs.declared.form.Atom as atom
-use Rattle.qe_form.specs.Formula.{Formula, Atom}
+use Rattle.qe_form.specs.Formula.{Formula}
 use Rattle.qe_form.specs.Tree.{tree}
 use Rattle.qe_form.specs.Same.{IsFree, Agree}
 use Rattle.qe_form.specs.Measures.{count}
 use Rattle.qe_simp.specs.declared.connective.Connective.{Connective}
 use Rattle.qe_simp.specs.declared.merge.Joined as merge
 use Rattle.qe_simp.specs.declared.merge.Joined.TheVariants.{One, Two}
-use Rattle.qe_simp.specs.Simplified.{simplified_atom, as_one}
-use Rattle.qe_simp.specs.Shape.{IsCanonical}
+use Rattle.qe_simp.specs.Simplified.{as_one}
 
 -- g is true and false at the points where f is so, has no further free variable, and has at most as many atoms and constants, or one
 pub record Keeps (f g : Formula) : Type 0 where
@@ -25,10 +23,6 @@ abbrev pub AgreesEverywhere : Formula → Formula → Type 0
 AgreesEverywhere f g = (p : Point) → IsPoint p → Agree f g p
 
 -- ---- what the code keeps
-
--- the atom agrees with its simplified form, and its polynomial is canonical
-abbrev pub IsKnown : atom.Atom → Type 0
-IsKnown a = AgreesEverywhere (Atom a) (simplified_atom a) × IsCanonical a
 
 -- the set of one sign
 abbrev pub only : Sign → Signs

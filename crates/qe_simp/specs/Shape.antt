@@ -1,5 +1,5 @@
 -- What simplified formulas are like.
-use Rattle.std.specs.Prelude.{ℤ, Bool, false, ◌≡◌, ◌≢◌}
+use Rattle.std.specs.Prelude.{ℤ, false, ◌≡◌, ◌≢◌}
 use Rattle.qe_poly.specs.Polynomial.{Polynomial, IsPolynomial, constant}
 use Rattle.qe_poly.specs.Primitive.{primitive, leads_negative}
 use Rattle.qe_form.specs.declared.form.Atom as atom

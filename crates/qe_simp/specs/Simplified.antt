@@ -1,5 +1,5 @@
 -- The simplified form of a formula.
-use Rattle.std.specs.Prelude.{Bool, true, false, not, cond, eqb, List, [], ◌∷◌, Option, Some, None, ℤ}
+use Rattle.std.specs.Prelude.{Bool, true, false, cond, eqb, List, [], ◌∷◌, Option, Some, None, ℤ}
 use Rattle.std.specs.List.{flat_map, list_any}
 use Rattle.std.specs.Ordering.{is_eq, is_gt}
 use Rattle.qe_ring.specs.Sign.{int_sign}

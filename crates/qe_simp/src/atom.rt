@@ -2,11 +2,10 @@
 
 ghost use Rattle.std.specs.Prelude.{◌≡◌, cond, IfOk};
 ghost use Rattle.qe_ring.specs.Sign.{int_sign};
-ghost use Rattle.qe_form.specs.Formula.{Atom as atomic};
 ghost use Rattle.qe_form.specs.Tree.{tree};
 ghost use Rattle.qe_form.specs.Signs.{mirror};
 ghost use Rattle.qe_form.specs.Truth.{has_sign};
-ghost use Rattle.qe_simp.specs.Meaning.{AgreesEverywhere, only};
+ghost use Rattle.qe_simp.specs.Meaning.{only};
 ghost use Rattle.qe_simp.specs.Shape.{IsCanonical};
 ghost use Rattle.qe_simp.specs.Simplified.{truth, simplified_atom};
 
@@ -54,7 +53,6 @@ fn mirrored_if(is_negated: bool, signs: Signs) -> Signs
 /// the primitive polynomial, with the signs of the negatives where that was negated.
 pub fn simplify_atom(alloc: Global, atom: Atom) -> Result<Form, OutOfMemory>
     ensures exact { IfOk result (λ f. tree f ≡ simplified_atom atom) }
-    ensures agree { IfOk result (λ _. AgreesEverywhere (atomic atom) (simplified_atom atom)) }
     ensures canonical { IfOk result (λ _. IsCanonical atom) }
 {
     let number = atom.poly.as_constant();

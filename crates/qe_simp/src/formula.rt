@@ -3,9 +3,9 @@
 ghost use Rattle.std.specs.Prelude.{◌≡◌, map, IfOk};
 ghost use Rattle.std.specs.List.{flat_map};
 ghost use Rattle.qe_form.specs.Tree.{tree, trees};
-ghost use Rattle.qe_simp.specs.Meaning.{Keeps, IsKnown};
+ghost use Rattle.qe_simp.specs.Meaning.{Keeps};
 ghost use Rattle.qe_form.specs.Plain.{IsPlain};
-ghost use Rattle.qe_simp.specs.Shape.{IsSimplified, EachAtom, EachAtomOf};
+ghost use Rattle.qe_simp.specs.Shape.{IsSimplified, EachAtom, EachAtomOf, IsCanonical};
 ghost use Rattle.qe_simp.specs.Simplified.{closed, decided, joint, merged, in_order, parts_in, simplified, simplified_each};
 
 use crate::OutOfMemory;
@@ -52,11 +52,11 @@ fn join_parts(
     Ok(decide(merge(alloc, parts, connective)?, connective))
 }
 
-/// The simplified form, and what is known of the atoms that were simplified.
+/// The simplified form. The atoms that were simplified are on canonical polynomials.
 #[cycle(simplify)]
 fn simplified_form(alloc: Global, form: Form) -> Result<Form, OutOfMemory>
     ensures exact { IfOk result (λ f. tree f ≡ simplified (tree form)) }
-    ensures atoms { IfOk result (λ _. EachAtom IsKnown (tree form)) }
+    ensures canonical { IfOk result (λ _. EachAtom IsCanonical (tree form)) }
 {
     match form {
         Form::Atom(atom) => simplify_atom(alloc, atom),
@@ -78,11 +78,11 @@ fn simplified_form(alloc: Global, form: Form) -> Result<Form, OutOfMemory>
     }
 }
 
-/// The simplified formulas as parts under a connective.
+/// The simplified formulas as parts under a connective. The atoms that were simplified are on canonical polynomials.
 #[cycle(simplify)]
 fn gather(alloc: Global, forms: Forms, connective: Connective) -> Result<Vec<Form>, OutOfMemory>
     ensures exact { IfOk result (λ v. map tree v.items ≡ flat_map (parts_in connective) (simplified_each (trees forms))) }
-    ensures atoms { IfOk result (λ _. EachAtomOf IsKnown (trees forms)) }
+    ensures canonical { IfOk result (λ _. EachAtomOf IsCanonical (trees forms)) }
 {
     let mut parts = Vec::new(alloc);
     for form in forms.into_vec() {
@@ -96,7 +96,8 @@ fn gather(alloc: Global, forms: Forms, connective: Connective) -> Result<Vec<For
 /// primitive with a positive leading coefficient. And and Or take in the parts of parts with their own connective; a part
 /// that decides leaves its constant; constants that change nothing and repeated parts go; atoms on one polynomial become
 /// one, with the signs in both for And and in either for Or; the rest stands in the order of formulas, and a list of one is
-/// its part. Formulas with other connectives stay as they are. `Err` for want of memory alone.
+/// its part. Formulas with other connectives stay as they are, and so does a form that is simplified already. `Err` for want
+/// of memory alone.
 pub fn simplify(alloc: Global, form: Form) -> Result<Form, OutOfMemory>
     ensures exact { IfOk result (λ f. tree f ≡ simplified (tree form)) }
     ensures kept { IfOk result (λ f. Keeps (tree form) (tree f)) }
@@ -112,7 +113,6 @@ mod tests {
     use qe_coef::Coef;
     use qe_form::{Atom, Poly, Sequence, Signs, Var};
     use qe_poly::PolyStop;
-    use std::test::Fail;
 
     const LESS: u8 = 1;
 
@@ -126,225 +126,221 @@ mod tests {
 
     const AT_LEAST: u8 = 6;
 
+    // A formula in postfix: a connective takes the last parts.
+    enum Part {
+        // a, or b, with these signs
+        A(u8),
+        B(u8),
+        // x*a + y*b + z with these signs
+        Linear(i128, i128, i128, u8),
+        True,
+        False,
+        And(u8),
+        Or(u8),
+        Not,
+    }
+
+    use Part::{A, And, B, False, Linear, Not, Or, True};
+
     fn product(alloc: Global, value: i128, var: u32) -> Result<Poly, PolyStop> {
         let coef = Coef::of(value).unwrap_or(Coef::zero());
         Poly::power(alloc, Var(var), 1)?.scale(alloc, coef)
     }
 
-    // a*x0 + b*x1 + c with the signs of these bits
-    fn atom(alloc: Global, a: i128, b: i128, c: i128, bits: u8) -> Result<Form, PolyStop> {
-        let free = Poly::constant(alloc, Coef::of(c).unwrap_or(Coef::zero()))?;
-        let sum = product(alloc, a, 0)?.add(alloc, &product(alloc, b, 1)?)?;
+    fn linear(alloc: Global, x: i128, y: i128, z: i128, bits: u8) -> Result<Form, PolyStop> {
+        let free = Poly::constant(alloc, Coef::of(z).unwrap_or(Coef::zero()))?;
+        let sum = product(alloc, x, 0)?.add(alloc, &product(alloc, y, 1)?)?;
         Ok(Form::Atom(Atom {
             poly: sum.add(alloc, &free)?,
             signs: Signs::of(bits % 2 == 1, bits / 2 % 2 == 1, bits / 4 % 2 == 1),
         }))
     }
 
-    fn first(alloc: Global, bits: u8) -> Result<Form, PolyStop> {
-        atom(alloc, 1, 0, 0, bits)
-    }
-
-    fn second(alloc: Global, bits: u8) -> Result<Form, PolyStop> {
-        atom(alloc, 0, 1, 0, bits)
-    }
-
-    fn and<const N: usize>(alloc: Global, parts: [Form; N]) -> Result<Form, PolyStop> {
-        Ok(Form::And(Sequence::from_vec(Vec::from_array(alloc, parts)?)))
-    }
-
-    fn or<const N: usize>(alloc: Global, parts: [Form; N]) -> Result<Form, PolyStop> {
-        Ok(Form::Or(Sequence::from_vec(Vec::from_array(alloc, parts)?)))
-    }
-
-    #[test]
-    fn simplifies_three_forms(rt: HostRuntime) -> Result<(), Fail> {
-        let m = rt.alloc();
-        // 2*a - 4 < 0 or 4 - 2*a <= 0
-        let always = or(m, [atom(m, 2, 0, -4, LESS)?, atom(m, -2, 0, 4, AT_MOST)?])?;
-        assert!(rt; simplify(m, always)? == Form::True);
-        // a < 0 and -a <= 0
-        let never = and(m, [first(m, LESS)?, atom(m, -1, 0, 0, AT_MOST)?])?;
-        assert!(rt; simplify(m, never)? == Form::False);
-        // b = 0 and a = 0 and b = 0
-        let twice = and(m, [second(m, EQUAL)?, first(m, EQUAL)?, second(m, EQUAL)?])?;
-        let want = and(m, [first(m, EQUAL)?, second(m, EQUAL)?])?;
-        assert!(rt; simplify(m, twice)? == want);
-        Ok(())
-    }
-
-    #[test]
-    fn simplifies_atoms(rt: HostRuntime) -> Result<(), Fail> {
-        let m = rt.alloc();
-        // The coefficients and the signs, and those that are left; or whether it is true.
-        for (a, b, c, bits, is_true) in [
-            (0, 0, 0, EQUAL, true),
-            (0, 0, 0, LESS, false),
-            (0, 0, 3, GREATER, true),
-            (0, 0, -3, GREATER, false),
-            (0, 0, -3, OTHER, true),
-            (1, 0, 0, 0, false),
-            (1, -2, 3, 7, true),
-            (0, 0, 5, 0, false),
-        ] {
-            let want = if is_true { Form::True } else { Form::False };
-            let simple = simplify(m, atom(m, a, b, c, bits)?)?;
-            assert!(rt; simple == want, "{a} {b} {c} with {bits}");
+    fn last(alloc: Global, stack: &mut Vec<Form>, count: u8) -> Result<Forms, OutOfMemory> {
+        let mut parts = Vec::new(alloc);
+        for _part in 0..count {
+            if let Some(form) = stack.pop() {
+                parts.push(form)?;
+            }
         }
-        for (a, b, c, bits, x, y, z, left) in [
-            (6, -4, 0, LESS, 3, -2, 0, LESS),
-            (-6, 4, 0, LESS, 3, -2, 0, GREATER),
-            (-1, -1, 0, AT_LEAST, 1, 1, 0, AT_MOST),
-            (0, -2, 2, EQUAL, 0, 1, -1, EQUAL),
-            (-1, 0, 0, OTHER, 1, 0, 0, OTHER),
-            (0, 3, -7, AT_MOST, 0, 3, -7, AT_MOST),
-            (0, -3, -9, AT_MOST, 0, 1, 3, AT_LEAST),
-        ] {
-            let simple = simplify(m, atom(m, a, b, c, bits)?)?;
-            assert!(rt;
-                simple == atom(m, x, y, z, left)?,
-                "{a} {b} {c} with {bits}"
-            );
+        parts.reverse();
+        Ok(Sequence::from_vec(parts))
+    }
+
+    fn negated(alloc: Global, stack: &mut Vec<Form>) -> Result<Form, OutOfMemory> {
+        let form = stack.pop().unwrap_or(Form::True);
+        Ok(Form::Not(Box::new(alloc, form)?))
+    }
+
+    fn next(alloc: Global, stack: &mut Vec<Form>, part: &Part) -> Result<Form, PolyStop> {
+        Ok(match *part {
+            Part::A(bits) => linear(alloc, 1, 0, 0, bits)?,
+            Part::B(bits) => linear(alloc, 0, 1, 0, bits)?,
+            Part::Linear(x, y, z, bits) => linear(alloc, x, y, z, bits)?,
+            Part::True => Form::True,
+            Part::False => Form::False,
+            Part::And(count) => Form::And(last(alloc, stack, count)?),
+            Part::Or(count) => Form::Or(last(alloc, stack, count)?),
+            Part::Not => negated(alloc, stack)?,
+        })
+    }
+
+    fn form(alloc: Global, parts: &[Part]) -> Result<Form, PolyStop> {
+        let mut stack = Vec::new(alloc);
+        for part in parts {
+            let form = next(alloc, &mut stack, part)?;
+            stack.push(form)?;
         }
-        Ok(())
+        Ok(stack.pop().unwrap_or(Form::True))
+    }
+
+    fn compared(alloc: Global, given: &[Part], want: &[Part]) -> Result<bool, PolyStop> {
+        let simple = simplify(alloc, form(alloc, given)?)?;
+        Ok(simple == form(alloc, want)?)
+    }
+
+    // Whether the first formula is simplified to the second.
+    fn is_simplified(alloc: Global, given: &[Part], want: &[Part]) -> bool {
+        matches!(compared(alloc, given, want), Ok(true))
     }
 
     #[test]
-    fn leaves_out_constants(rt: HostRuntime) -> Result<(), Fail> {
-        let m = rt.alloc();
-        let cases = [
-            (and(m, [])?, Form::True),
-            (or(m, [])?, Form::False),
-            (and(m, [Form::True, first(m, EQUAL)?])?, first(m, EQUAL)?),
-            (or(m, [first(m, EQUAL)?, Form::False])?, first(m, EQUAL)?),
-            (and(m, [first(m, EQUAL)?, Form::False])?, Form::False),
-            (or(m, [Form::True, first(m, EQUAL)?])?, Form::True),
-            (or(m, [Form::False, Form::False])?, Form::False),
+    fn simplifies_three_forms(rt: HostRuntime) {
+        let cases: [(&[Part], &[Part]); 3] = [
             (
-                and(m, [first(m, LESS)?, atom(m, 0, 0, 5, GREATER)?])?,
-                first(m, LESS)?,
+                &[Linear(2, 0, -4, LESS), Linear(-2, 0, 4, AT_MOST), Or(2)],
+                &[True],
             ),
+            (&[A(LESS), Linear(-1, 0, 0, AT_MOST), And(2)], &[False]),
             (
-                and(m, [first(m, LESS)?, atom(m, 0, 0, 5, LESS)?])?,
-                Form::False,
-            ),
-            (
-                or(m, [first(m, EQUAL)?, or(m, [])?, and(m, [])?])?,
-                Form::True,
+                &[B(EQUAL), A(EQUAL), B(EQUAL), And(3)],
+                &[A(EQUAL), B(EQUAL), And(2)],
             ),
         ];
-        for (form, want) in cases {
-            assert!(rt; simplify(m, form)? == want);
+        for (given, want) in cases {
+            assert!(rt; is_simplified(rt.alloc(), given, want));
         }
-        Ok(())
     }
 
     #[test]
-    fn merges_signs(rt: HostRuntime) -> Result<(), Fail> {
-        let m = rt.alloc();
-        let mirrored = atom(m, -1, 0, 0, AT_LEAST)?;
-        let three = and(m, [first(m, AT_MOST)?, first(m, OTHER)?, mirrored])?;
-        let above = atom(m, -1, 0, 0, LESS)?;
-        let each_sign = or(m, [first(m, LESS)?, first(m, EQUAL)?, above])?;
-        let empty_part = or(
-            m,
-            [
-                and(m, [first(m, LESS)?, first(m, GREATER)?])?,
-                second(m, EQUAL)?,
-            ],
-        )?;
-        let full_part = and(
-            m,
-            [
-                or(m, [first(m, LESS)?, first(m, AT_LEAST)?])?,
-                second(m, EQUAL)?,
-            ],
-        )?;
-        let cases = [
-            (three, first(m, LESS)?),
-            (each_sign, Form::True),
-            (or(m, [first(m, LESS)?, first(m, LESS)?])?, first(m, LESS)?),
+    fn decides_atoms(rt: HostRuntime) {
+        let cases: [(&[Part], &[Part]); 8] = [
+            (&[Linear(0, 0, 0, EQUAL)], &[True]),
+            (&[Linear(0, 0, 0, LESS)], &[False]),
+            (&[Linear(0, 0, 3, GREATER)], &[True]),
+            (&[Linear(0, 0, -3, GREATER)], &[False]),
+            (&[Linear(0, 0, -3, OTHER)], &[True]),
+            (&[A(0)], &[False]),
+            (&[Linear(1, -2, 3, 7)], &[True]),
+            (&[Linear(0, 0, 5, 0)], &[False]),
+        ];
+        for (given, want) in cases {
+            assert!(rt; is_simplified(rt.alloc(), given, want));
+        }
+    }
+
+    #[test]
+    fn makes_atoms_primitive(rt: HostRuntime) {
+        let cases: [(&[Part], &[Part]); 7] = [
+            (&[Linear(6, -4, 0, LESS)], &[Linear(3, -2, 0, LESS)]),
+            (&[Linear(-6, 4, 0, LESS)], &[Linear(3, -2, 0, GREATER)]),
+            (&[Linear(-1, -1, 0, AT_LEAST)], &[Linear(1, 1, 0, AT_MOST)]),
+            (&[Linear(0, -2, 2, EQUAL)], &[Linear(0, 1, -1, EQUAL)]),
+            (&[Linear(-1, 0, 0, OTHER)], &[A(OTHER)]),
+            (&[Linear(0, 3, -7, AT_MOST)], &[Linear(0, 3, -7, AT_MOST)]),
+            (&[Linear(0, -3, -9, AT_MOST)], &[Linear(0, 1, 3, AT_LEAST)]),
+        ];
+        for (given, want) in cases {
+            assert!(rt; is_simplified(rt.alloc(), given, want));
+        }
+    }
+
+    #[test]
+    fn leaves_out_constants(rt: HostRuntime) {
+        let cases: [(&[Part], &[Part]); 10] = [
+            (&[And(0)], &[True]),
+            (&[Or(0)], &[False]),
+            (&[True, A(EQUAL), And(2)], &[A(EQUAL)]),
+            (&[A(EQUAL), False, Or(2)], &[A(EQUAL)]),
+            (&[A(EQUAL), False, And(2)], &[False]),
+            (&[True, A(EQUAL), Or(2)], &[True]),
+            (&[False, False, Or(2)], &[False]),
+            (&[A(LESS), Linear(0, 0, 5, GREATER), And(2)], &[A(LESS)]),
+            (&[A(LESS), Linear(0, 0, 5, LESS), And(2)], &[False]),
+            (&[A(EQUAL), Or(0), And(0), Or(3)], &[True]),
+        ];
+        for (given, want) in cases {
+            assert!(rt; is_simplified(rt.alloc(), given, want));
+        }
+    }
+
+    #[test]
+    fn merges_signs(rt: HostRuntime) {
+        let cases: [(&[Part], &[Part]); 6] = [
             (
-                or(m, [first(m, LESS)?, first(m, EQUAL)?])?,
-                first(m, AT_MOST)?,
+                &[A(AT_MOST), A(OTHER), Linear(-1, 0, 0, AT_LEAST), And(3)],
+                &[A(LESS)],
             ),
-            (empty_part, second(m, EQUAL)?),
-            (full_part, second(m, EQUAL)?),
-        ];
-        for (form, want) in cases {
-            assert!(rt; simplify(m, form)? == want);
-        }
-        Ok(())
-    }
-
-    #[test]
-    fn flattens_and_sorts(rt: HostRuntime) -> Result<(), Fail> {
-        let m = rt.alloc();
-        let nested = and(
-            m,
-            [second(m, LESS)?, and(m, [first(m, LESS)?, Form::True])?],
-        )?;
-        let either = or(
-            m,
-            [
-                or(m, [second(m, LESS)?, first(m, LESS)?])?,
-                first(m, GREATER)?,
-            ],
-        )?;
-        let deep = and(m, [and(m, [or(m, [and(m, [first(m, EQUAL)?])?])?])?])?;
-        let by_polynomial = and(
-            m,
-            [
-                second(m, EQUAL)?,
-                atom(m, 1, 1, 0, EQUAL)?,
-                atom(m, 1, 0, -1, EQUAL)?,
-                first(m, EQUAL)?,
-            ],
-        )?;
-        let in_order = and(
-            m,
-            [
-                first(m, EQUAL)?,
-                atom(m, 1, 1, 0, EQUAL)?,
-                atom(m, 1, 0, -1, EQUAL)?,
-                second(m, EQUAL)?,
-            ],
-        )?;
-        let cases = [
-            (nested, and(m, [first(m, LESS)?, second(m, LESS)?])?),
-            (either, or(m, [first(m, OTHER)?, second(m, LESS)?])?),
-            (deep, first(m, EQUAL)?),
-            (by_polynomial, in_order),
-        ];
-        for (form, want) in cases {
-            assert!(rt; simplify(m, form)? == want);
-        }
-        Ok(())
-    }
-
-    #[test]
-    fn keeps_other_parts_once(rt: HostRuntime) -> Result<(), Fail> {
-        let m = rt.alloc();
-        let either = or(m, [first(m, EQUAL)?, second(m, EQUAL)?])?;
-        let turned = or(m, [second(m, EQUAL)?, first(m, EQUAL)?])?;
-        let both = and(m, [first(m, EQUAL)?, second(m, EQUAL)?])?;
-        let other = Form::Not(Box::new(m, Form::True)?);
-        let atom_last = and(m, [turned.copy(m)?, first(m, LESS)?])?;
-        let atom_first = and(m, [first(m, LESS)?, either.copy(m)?])?;
-        let not_absorbed = or(m, [both.copy(m)?, first(m, EQUAL)?, both.copy(m)?])?;
-        let cases = [
-            (and(m, [either.copy(m)?, turned.copy(m)?])?, either.copy(m)?),
-            (atom_last, atom_first),
-            (not_absorbed, or(m, [first(m, EQUAL)?, both.copy(m)?])?),
+            (&[A(LESS), A(EQUAL), Linear(-1, 0, 0, LESS), Or(3)], &[True]),
+            (&[A(LESS), A(LESS), Or(2)], &[A(LESS)]),
+            (&[A(LESS), A(EQUAL), Or(2)], &[A(AT_MOST)]),
+            (&[A(LESS), A(GREATER), And(2), B(EQUAL), Or(2)], &[B(EQUAL)]),
             (
-                and(m, [other.copy(m)?, first(m, EQUAL)?])?,
-                and(m, [first(m, EQUAL)?, other.copy(m)?])?,
+                &[A(LESS), A(AT_LEAST), Or(2), B(EQUAL), And(2)],
+                &[B(EQUAL)],
             ),
-            (other.copy(m)?, other.copy(m)?),
         ];
-        for (form, want) in cases {
-            assert!(rt; simplify(m, form)? == want);
+        for (given, want) in cases {
+            assert!(rt; is_simplified(rt.alloc(), given, want));
         }
-        Ok(())
+    }
+
+    #[test]
+    fn flattens_and_sorts(rt: HostRuntime) {
+        let cases: [(&[Part], &[Part]); 5] = [
+            (
+                &[B(LESS), A(LESS), True, And(2), And(2)],
+                &[A(LESS), B(LESS), And(2)],
+            ),
+            (
+                &[B(LESS), A(LESS), Or(2), A(GREATER), Or(2)],
+                &[A(OTHER), B(LESS), Or(2)],
+            ),
+            (&[A(EQUAL), And(1), Or(1), And(1), And(1)], &[A(EQUAL)]),
+            (
+                &[B(EQUAL), Linear(1, 1, 0, EQUAL), A(EQUAL), And(3)],
+                &[A(EQUAL), Linear(1, 1, 0, EQUAL), B(EQUAL), And(3)],
+            ),
+            (
+                &[Linear(1, 0, -1, EQUAL), Linear(1, 1, 0, LESS), Or(2)],
+                &[Linear(1, 1, 0, LESS), Linear(1, 0, -1, EQUAL), Or(2)],
+            ),
+        ];
+        for (given, want) in cases {
+            assert!(rt; is_simplified(rt.alloc(), given, want));
+        }
+    }
+
+    #[test]
+    fn keeps_other_parts_once(rt: HostRuntime) {
+        let cases: [(&[Part], &[Part]); 5] = [
+            (
+                &[A(LESS), B(LESS), Or(2), B(LESS), A(LESS), Or(2), And(2)],
+                &[A(LESS), B(LESS), Or(2)],
+            ),
+            (
+                &[A(LESS), B(LESS), Or(2), A(EQUAL), And(2)],
+                &[A(EQUAL), A(LESS), B(LESS), Or(2), And(2)],
+            ),
+            (
+                &[A(LESS), B(LESS), And(2), A(LESS), Or(2)],
+                &[A(LESS), A(LESS), B(LESS), And(2), Or(2)],
+            ),
+            (&[True, Not, A(LESS), And(2)], &[A(LESS), True, Not, And(2)]),
+            (&[True, Not, True, Not, Or(2)], &[True, Not]),
+        ];
+        for (given, want) in cases {
+            assert!(rt; is_simplified(rt.alloc(), given, want));
+        }
     }
 }

@@ -1,6 +1,12 @@
 //! The laws of the simplified form. Each function does nothing: its clause is the law.
 
-ghost use Rattle.qe_simp.specs.Laws.{Idempotent, AlikeIsEqual, SamePartsIsEqual, PlainIsSimplified};
+ghost use Rattle.qe_simp.specs.Laws.{SimplifiedKeeps, Idempotent, AlikeIsEqual, SamePartsIsEqual, PlainIsSimplified};
+
+/// Where the polynomials are canonical, as those of the code are, the simplified form is true and false at the same points as
+/// the formula, has no further free variable, and has at most as many atoms and constants, or one.
+pub fn simplified_keeps()
+    ensures { SimplifiedKeeps }
+{}
 
 /// Where the polynomials are canonical, as those of the code are, simplifying twice is simplifying once.
 pub fn idempotent()

@@ -174,7 +174,7 @@ clean_input s h = subst (λ (x : List Mark). IsClean 0 x) (sym (whole s)) (clean
 ended_first : (after : List Located) → (more : List Tok) × (ended after ≡ head after ∷ more)
 ended_first after = some_first after
 
-no_fault_of : (s : Formula) (tokens : List Located) → texts (input s) ≡ ended tokens → IsClean 0 (input s) → HasNoFault tokens
+pub no_fault_of : (s : Formula) (tokens : List Located) → texts (input s) ≡ ended tokens → IsClean 0 (input s) → HasNoFault tokens
 no_fault_of s tokens spelled clean before after f e h =
     let w = ended_first after in
     no_earlier s (input s) [] (sym (append-nil (input s))) clean (bare before) (head after) w.0 f (spelled ∙ ap ended e ∙ ended-append before after ∙ ap (λ (x : List Tok). bare before ++ x) w.1) h

@@ -133,18 +133,18 @@ mutual
 -- ---- the marks of a text
 
 -- the tokens before one, and those from it on
-record Cut (tokens : List Located) (ts : List Tok) (t : Tok) : Type 0 where
-  before : List Located
-  after : List Located
-  stands : tokens ≡ before ++ after
-  before_are : bare before ≡ ts
-  next_is : head after ≡ t
+pub record Cut (tokens : List Located) (ts : List Tok) (t : Tok) : Type 0 where
+  pub before : List Located
+  pub after : List Located
+  pub stands : tokens ≡ before ++ after
+  pub before_are : bare before ≡ ts
+  pub next_is : head after ≡ t
 
 nothing_left : (ts : List Tok) (t : Tok) (us : List Tok) → [] ≡ ts ++ t ∷ us → ⊥
 nothing_left [] t us e = absurd cc
 nothing_left (x ∷ ts) t us e = absurd cc
 
-cut : (tokens : List Located) (ts : List Tok) (t : Tok) (us : List Tok) → ended tokens ≡ ts ++ t ∷ us → Cut tokens ts t
+pub cut : (tokens : List Located) (ts : List Tok) (t : Tok) (us : List Tok) → ended tokens ≡ ts ++ t ∷ us → Cut tokens ts t
 cut [] [] t us e = record { before = []; after = []; stands = refl; before_are = refl; next_is = let f : None ≡ t = cc in f }
 cut (l ∷ ls) [] t us e = record { before = []; after = l ∷ ls; stands = refl; before_are = refl; next_is = let f : Some l.token ≡ t = cc in f }
 cut [] (x ∷ ts) t us e = absurd (nothing_left ts t us (let f : [] ≡ ts ++ t ∷ us = cc in f))

@@ -1,4 +1,4 @@
-use Rattle.std.proofs.Common.{◌≡◌, ◌∙◌, sym, ap, [], ◌∷◌, ◌++◌}
+use Rattle.std.proofs.Common.{◌∙◌, sym, ap, [], ◌∷◌, ◌++◌}
 use Rattle.qe_form.specs.Tree.{tree}
 use Rattle.qe_form.proofs.Ranks.{not_false, not_or}
 use Rattle.qe_form.proofs.Trees.{tree_or}

@@ -1,5 +1,4 @@
-use Rattle.std.proofs.Common.{◌∙◌, ap, map}
-use Rattle.qe_form.specs.Tree.{tree}
+use Rattle.std.proofs.Common.{◌∙◌, ap}
 use Rattle.qe_simp.specs.Simplified.{decided, merged}
 use Rattle.qe_simp.proofs.Sorting.{sorted_is}
 use Rattle.qe_simp.proofs.formula.join_parts.Goals as goal

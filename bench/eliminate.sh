@@ -1,0 +1,109 @@
+#!/usr/bin/env bash
+# How long elimination takes: random linear inequalities, a moving disc, quadratics with parameters, and alternations that are
+# nested, over the built program with one worker. Prints a table: the shortest time of a number of runs, the most distinct nodes of
+# a block, and the most memory. The nodes are found by trying limits: the least one that is not refused.
+set -eu
+cd -- "$(dirname -- "${BASH_SOURCE[0]}")/.."
+runs=${RUNS:-3}
+seed=${SEED:-1}
+work=$(mktemp -d)
+trap 'rm -rf "$work"' EXIT
+
+# The first run builds the program; the times are of the program itself.
+echo true | ./qe >"$work/first"
+grep -qx true "$work/first"
+
+# So many linear inequalities in so many variables and a parameter, with coefficients from -9 to 9.
+linear() {
+  awk -v rows="$1" -v variables="$2" -v state="$seed" '
+    function draw() { state = (state * 16807) % 2147483647; return state % 19 - 9 }
+    BEGIN {
+      printf "ex"
+      for (j = 1; j <= variables; j++) printf " x%d", j
+      for (i = 1; i <= rows; i++) {
+        printf "%s", i == 1 ? ". " : " and "
+        for (j = 1; j <= variables; j++) printf "%d*x%d + ", draw(), j
+        printf "%d*a + %d <= 0", draw(), draw()
+      }
+    }'
+}
+
+disc() { printf 'ex t. 0 <= t and t <= 1 and (u + v*t)^2 + w^2 <= r^2'; }
+
+# So many quadratics that are to be at most zero at one place.
+quadratics() {
+  awk -v parts="$1" 'BEGIN {
+    printf "ex x. "
+    for (i = 1; i <= parts; i++) printf "%sx^2 + b%d*x + c%d <= 0", i == 1 ? "" : " and ", i, i
+  }'
+}
+
+# So many pairs of quantifiers: whatever x1, some y1, and so on.
+alternations() {
+  awk -v pairs="$1" 'BEGIN {
+    for (i = 1; i <= pairs; i++) printf "all x%d. ex y%d. ", i, i
+    for (i = 1; i <= pairs; i++) printf "%s[x%d < a or y%d^2 = x%d - a]", i == 1 ? "" : " and ", i, i, i
+  }'
+}
+
+# The exit status with a limit of nodes.
+status_with() {
+  local status=0
+  crates/qe/out/qe --workers 1 --nodes "$1" <"$work/input" >"$work/out" || status=$?
+  echo "$status"
+}
+
+# The least limit of nodes that is not refused.
+nodes() {
+  local low=0 high=1 middle
+  while [ "$(status_with "$high")" -eq 9 ]; do
+    low=$high
+    high=$((high * 2))
+    [ "$high" -le 1000000 ] || high=1000000
+    [ "$low" -lt 1000000 ] || { echo 'over 1000000'; return; }
+  done
+  while [ $((high - low)) -gt 1 ]; do
+    middle=$(((low + high) / 2))
+    if [ "$(status_with "$middle")" -eq 9 ]; then low=$middle; else high=$middle; fi
+  done
+  echo "$high"
+}
+
+# The shortest time of the runs in milliseconds, the exit status, the bytes written and the most memory in KiB.
+measure() {
+  local best= status taken before after
+  for _ in $(seq "$runs"); do
+    status=0
+    before=$(date +%s%N)
+    /usr/bin/time -f %M -o "$work/memory" crates/qe/out/qe --workers 1 --nodes 1000000 <"$work/input" >"$work/out" || status=$?
+    after=$(date +%s%N)
+    taken=$(((after - before) / 1000))
+    if [ -z "$best" ] || [ "$taken" -lt "$best" ]; then best=$taken; fi
+  done
+  echo "$(awk "BEGIN { printf \"%.1f\", $best / 1000 }") $status $(wc -c <"$work/out") $(tail -n 1 "$work/memory")"
+}
+
+row() {
+  local name=$1 size=$2 ms status bytes memory
+  read -r ms status bytes memory <<<"$(measure)"
+  printf '| %-12s | %-7s | %9s | %6s | %8s | %12s | %9s |\n' "$name" "$size" "$ms" "$status" "$(nodes)" "$bytes" "$memory"
+}
+
+printf 'processors %s, seed %s\n\n' "$(nproc)" "$seed"
+printf '| %-12s | %-7s | %9s | %6s | %8s | %12s | %9s |\n' family size ms status nodes 'bytes written' 'KiB'
+printf '|--------------|---------|-----------|--------|----------|---------------|-----------|\n'
+for size in '4 1' '8 1' '16 1' '4 2' '8 2' '12 2' '4 3' '6 3' '8 3'; do
+  read -r rows variables <<<"$size"
+  linear "$rows" "$variables" >"$work/input"
+  row linear "$rows by $variables"
+done
+disc >"$work/input"
+row disc 1
+for parts in 2 3 4; do
+  quadratics "$parts" >"$work/input"
+  row quadratics "$parts"
+done
+for pairs in 1 2 3 4; do
+  alternations "$pairs" >"$work/input"
+  row alternations "$pairs"
+done
