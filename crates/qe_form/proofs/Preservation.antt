@@ -5,9 +5,9 @@ use Rattle.qe_tower.specs.Number.{Number}
 use Rattle.qe_tower.specs.Point.{Point, IsPoint, look_up}
 use Rattle.qe_form.specs.Formula.{Formula, True, False, Atom, And, Or, Not, Implies, Iff, Ex, All}
 use Rattle.qe_form.specs.Truth.{Is}
-use Rattle.qe_form.specs.Same.{IsFree, Gives, Same}
+use Rattle.qe_form.specs.Same.{IsFree, Gives}
 use Rattle.qe_form.specs.Preserved.{Preserves, IsDecided, HasDecidedCore, HasOuterQuantifiers}
-use Rattle.qe_form.specs.Laws.{IsSettled, PreservesIsSame, PreservesIsPreorder, PreservesIsKept, CoresAreDecided}
+use Rattle.qe_form.specs.Laws.{PreservesIsSame, PreservesIsPreorder, PreservesIsKept, CoresAreDecided}
 use Rattle.qe_form.proofs.TwoSides.{never_both, decided, classical}
 
 -- ---- a formula that is decided

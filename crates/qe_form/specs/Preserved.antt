@@ -1,7 +1,7 @@
 -- When truth and falsity pass from one formula to another, and when that is all there is to being the same.
 use Rattle.std.specs.Prelude.{ℕ, Bool, true, false, ◌⊎◌}
 use Rattle.qe_tower.specs.Point.{Point, IsPoint}
-use Rattle.qe_form.specs.Formula.{Formula, True, False, Atom, And, Or, Not, Implies, Iff, Ex, All}
+use Rattle.qe_form.specs.Formula.{Formula, Not, Ex, All}
 use Rattle.qe_form.specs.Truth.{Is}
 use Rattle.qe_form.specs.Same.{IsFree, HasNoQuantifier, Gives}
 

@@ -1,5 +1,5 @@
 -- What the walk of the code found makes the prenex form.
-use Rattle.std.proofs.Common.{ℕ, ◌<◌, ◌≤◌, min, true, ◌≡◌, ◌∙◌, refl, sym, ap, List, [], ◌++◌, Result, Ok, Err, IfOk, arith}
+use Rattle.std.proofs.Common.{ℕ, ◌<◌, ◌≤◌, min, true, ◌≡◌, ◌∙◌, sym, ap, List, [], ◌++◌, Result, Ok, Err, IfOk, arith}
 use Rattle.qe_form.specs.Formula.{Formula}
 use Rattle.qe_form.specs.Tree.{tree}
 use Rattle.qe_norm.specs.declared.prenex.Prenex.{Prenex}

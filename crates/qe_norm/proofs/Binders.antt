@@ -1,5 +1,5 @@
 -- Which variables the quantifiers of a formula bind, of the formula that is read and of its normal form.
-use Rattle.std.proofs.Common.{ℕ, Bool, true, false, not, ◌≡◌, ◌⊎◌, inl, inr, refl, sym, eqb, List, [], ◌∷◌, ◌++◌, arith}
+use Rattle.std.proofs.Common.{ℕ, Bool, true, false, not, ◌≡◌, ◌⊎◌, inl, inr, sym, eqb, List, [], ◌∷◌, ◌++◌, arith}
 use Rattle.std.proofs.lemmas.Bool.Decides.{nat_tests}
 use Rattle.std.specs.Prelude.{nat_eq}
 use Rattle.std.specs.List.{IsDistinct, AllByRecursion, Contains}
@@ -7,7 +7,7 @@ use Rattle.std.proofs.lemmas.Map.Keys.{IsDistinct-head, IsDistinct-tail, IsDisti
 use Rattle.std.proofs.lemmas.List.Elements.{Contains-append_left, Contains-append_right}
 use Rattle.qe_form.specs.Formula.{Formula, Formulas, True, False, Atom, And, Or, Not, Implies, Iff, Ex, All, no_more, more}
 use Rattle.qe_form.specs.Numbered.{binders, binders_each}
-use Rattle.qe_norm.specs.NormalForm.{constant, connected, pair, quantified_if, normal_form, normal_forms}
+use Rattle.qe_norm.specs.NormalForm.{constant, connected, quantified_if, normal_form, normal_forms}
 
 -- some quantifier of the formula binds the variable
 abbrev mutual

@@ -1,8 +1,8 @@
 -- One turn of the loop over the parts of a formula.
-use Rattle.std.proofs.Common.{ℕ, ◌+◌, ◌<◌, Bool, ◌≡◌, ◌∙◌, refl, sym, ap, List, [], ◌∷◌, ◌++◌, length, get_or, drop}
+use Rattle.std.proofs.Common.{ℕ, ◌+◌, ◌<◌, Bool, ◌≡◌, ◌∙◌, sym, ap, List, ◌++◌, length, get_or, drop}
 use Rattle.std.proofs.lemmas.List.{append_assoc}
 use Rattle.qe_form.specs.declared.form.Form.{Form}
-use Rattle.qe_form.specs.Formula.{Formula, Formulas, no_more, more}
+use Rattle.qe_form.specs.Formula.{Formulas, more}
 use Rattle.qe_form.specs.Tree.{tree, trees}
 use Rattle.qe_form.proofs.Trees.{left_at}
 use Rattle.qe_norm.specs.declared.walk.Quantifier.{Quantifier}

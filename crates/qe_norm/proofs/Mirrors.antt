@@ -5,8 +5,8 @@ use Rattle.qe_form.specs.Formula.{Formula, Formulas, True, False, Atom, And, Or,
 use Rattle.qe_form.specs.Measures.{count, count_each}
 use Rattle.qe_norm.specs.declared.walk.Quantifier.{Quantifier}
 use Rattle.qe_norm.specs.declared.walk.Renaming.{Renaming}
-use Rattle.qe_norm.specs.NormalForm.{constant, connected, pair, quantified_if, signs_if, normal_form, normal_forms}
-use Rattle.qe_norm.specs.Numbering.{Walked, after, within, renamed_by, numbered, numbered_each}
+use Rattle.qe_norm.specs.NormalForm.{constant, connected, pair, quantified_if, normal_form, normal_forms}
+use Rattle.qe_norm.specs.Numbering.{Walked, after, within, numbered, numbered_each}
 use Rattle.qe_norm.specs.Blocks.{prefix, prefix_each, matrix, matrix_each}
 use Rattle.qe_norm.specs.Walk.{size_of, size_of_each, kind_if, quantifier, met_after, met_after_each, quantifiers, quantifiers_each, opened, opened_each}
 

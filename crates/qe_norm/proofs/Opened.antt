@@ -1,5 +1,5 @@
 -- The normal form is true where the formula is, and false where it is; it has the same free variables.
-use Rattle.std.proofs.Common.{◌≡◌, ◌∙◌, refl, sym, ap, subst, ℕ, Bool, true, false, not, ◌⊎◌, ◌↔◌, inl, inr, ◌∷◌}
+use Rattle.std.proofs.Common.{◌≡◌, ◌∙◌, refl, sym, ℕ, Bool, true, false, not, ◌⊎◌, ◌↔◌, inl, inr, ◌∷◌}
 use Rattle.qe_ring.specs.Sign.{Sign, Minus, Zero, Plus}
 use Rattle.qe_tower.specs.Number.{Number, IsNumber, sign_of}
 use Rattle.qe_tower.specs.Point.{Point}
@@ -11,7 +11,7 @@ use Rattle.qe_form.specs.Truth.{has_sign, Is, EachIs, SomeIs}
 use Rattle.qe_form.specs.Same.{IsFree, IsFreeInSome, Same}
 use Rattle.qe_form.specs.Preserved.{IsDecided}
 use Rattle.qe_form.proofs.TwoSides.{never_both}
-use Rattle.qe_norm.specs.NormalForm.{constant, connected, pair, quantified_if, signs_if, normal_form, normal_forms}
+use Rattle.qe_norm.specs.NormalForm.{constant, connected, quantified_if, signs_if, normal_form, normal_forms}
 
 -- b and c are the same
 abbrev pub agreeing : Bool → Bool → Bool

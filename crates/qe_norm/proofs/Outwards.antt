@@ -1,13 +1,13 @@
 -- Quantifiers move outwards: a formula whose quantifiers have variables of their own is true at a point only if its matrix under
 -- its quantifiers is, and false only if that is.
-use Rattle.std.proofs.Common.{ℕ, Bool, true, false, not, ◌≡◌, ◌≢◌, ◌∙◌, ◌⊎◌, inl, inr, refl, sym, ap, subst, eqb, pos, List, [], ◌∷◌, ◌++◌, Some, if◌then◌else◌, arith}
+use Rattle.std.proofs.Common.{ℕ, Bool, true, false, not, ◌≡◌, ◌⊎◌, inl, inr, refl, sym, ap, subst, eqb, pos, List, [], ◌∷◌, ◌++◌, Some, if◌then◌else◌, arith}
 use Rattle.std.proofs.lemmas.Bool.{cases_eq}
 use Rattle.std.proofs.lemmas.Bool.Decides.{nat_tests}
 use Rattle.qe_tower.specs.Number.{Number, IsNumber, whole_number}
-use Rattle.qe_tower.specs.Point.{Point, look_up, or_zero, number_at}
+use Rattle.qe_tower.specs.Point.{Point, look_up, or_zero}
 use Rattle.qe_form.specs.Formula.{Formula, Formulas, no_more, more}
 use Rattle.qe_form.specs.Formula as formula
-use Rattle.qe_form.specs.Truth.{Is, EachIs, SomeIs}
+use Rattle.qe_form.specs.Truth.{Is}
 use Rattle.qe_form.specs.Same.{IsFree, IsFreeInSome}
 use Rattle.qe_form.proofs.FreeReads.{truth_reads}
 use Rattle.qe_norm.specs.declared.prenex.Kind.{Kind}

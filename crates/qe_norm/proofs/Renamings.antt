@@ -1,8 +1,8 @@
 -- Renamings in force: where a variable ends, the point that the formula before them sees, and what atoms keep.
-use Rattle.std.proofs.Common.{ℕ, suc, ◌+◌, ◌<◌, ◌≤◌, Bool, true, false, cond, eqb, ◌≡◌, ◌≢◌, ◌∙◌, ◌⊎◌, inl, inr, refl, sym, ap, subst, List, [], ◌∷◌, ◌++◌, Some, if◌then◌else◌, arith}
+use Rattle.std.proofs.Common.{ℕ, suc, ◌<◌, ◌≤◌, Bool, true, false, cond, eqb, ◌≡◌, ◌≢◌, ◌∙◌, ◌⊎◌, inl, inr, refl, sym, ap, List, [], ◌∷◌, ◌++◌, Some, if◌then◌else◌, arith}
 use Rattle.std.proofs.lemmas.Bool.{eqb-true}
 use Rattle.std.proofs.lemmas.Bool.Decides.{nat_tests}
-use Rattle.qe_tower.specs.Number.{Number, IsNumber, sign_of}
+use Rattle.qe_tower.specs.Number.{Number, sign_of}
 use Rattle.qe_tower.specs.Point.{Point, IsPoint, look_up, or_zero, number_at}
 use Rattle.qe_poly.specs.Polynomial.{Polynomial}
 use Rattle.qe_poly.specs.Renamed.{renamed}

@@ -1,14 +1,13 @@
 -- A walk through a normal form gives its quantifiers variables of their own, and keeps truth and falsity: a bound variable is
 -- renamed to one that is free nowhere.
-use Rattle.std.proofs.Common.{ℕ, ◌+◌, ◌<◌, ◌≤◌, Bool, true, false, cond, eqb, ◌≡◌, ◌≢◌, ◌∙◌, ◌⊎◌, inl, inr, refl, sym, ap, subst, List, [], ◌∷◌, ◌++◌, length, length-append, Some, if◌then◌else◌, arith}
+use Rattle.std.proofs.Common.{ℕ, ◌+◌, ◌<◌, Bool, true, false, cond, eqb, ◌≡◌, ◌≢◌, ◌∙◌, ◌⊎◌, inl, inr, refl, sym, ap, subst, List, [], ◌∷◌, ◌++◌, length, length-append, Some, if◌then◌else◌, arith}
 use Rattle.std.proofs.lemmas.Bool.{cases_eq}
 use Rattle.std.proofs.lemmas.Bool.Decides.{nat_tests}
 use Rattle.std.specs.Prelude.{unwrap_or, slice_get, slice_set}
-use Rattle.qe_tower.specs.Number.{Number, IsNumber, sign_of}
+use Rattle.qe_tower.specs.Number.{Number, IsNumber}
 use Rattle.qe_tower.specs.Point.{Point, IsPoint, look_up, or_zero, number_at}
 use Rattle.qe_form.specs.declared.form.Atom as atom
 use Rattle.qe_form.specs.Formula.{Formula, Formulas, True, False, Atom, And, Or, Not, Implies, Iff, Ex, All, no_more, more}
-use Rattle.qe_form.specs.Value.{value}
 use Rattle.qe_form.specs.Truth.{has_sign, Is, EachIs, SomeIs}
 use Rattle.qe_form.specs.Same.{IsFree, IsFreeInSome}
 use Rattle.qe_form.specs.Measures as measures
@@ -16,9 +15,9 @@ use Rattle.qe_form.proofs.FreeReads.{truth_reads}
 use Rattle.qe_norm.specs.declared.walk.Renaming.{Renaming}
 use Rattle.qe_norm.specs.Numbering.{Walked, is_copy, number, after, within, numbered, numbered_each}
 use Rattle.qe_norm.proofs.Binders.{Binds, BindsIn, IsReady, AreReady}
-use Rattle.qe_norm.proofs.Outwards.{IsApart, AreApart, Disjoint}
+use Rattle.qe_norm.proofs.Outwards.{IsApart, AreApart}
 use Rattle.qe_norm.proofs.Steps.{IsWalked, IsTaken, Step, IsNew, step_none, step_then, after_step}
-use Rattle.qe_norm.proofs.Renamings.{image, IsSource, Rising, rising_bounds, rising_more, rising_push, source_push, image_cases, image_stays, image_push, occurs_from, seen, seen_push, with_one, seen_other, avoids_above, avoids_below, seen_sign}
+use Rattle.qe_norm.proofs.Renamings.{image, IsSource, Rising, rising_more, rising_push, source_push, image_cases, image_stays, image_push, occurs_from, seen, seen_push, with_one, seen_other, avoids_above, avoids_below, seen_sign}
 
 eqb_itself : (i j : ℕ) → i ≡ j → eqb i j ≡ true
 eqb_itself i j same = grind (arith, nat_tests)

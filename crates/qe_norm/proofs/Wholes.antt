@@ -1,13 +1,11 @@
 -- The prenex form keeps truth and falsity, is the same where the core is decided, and is well numbered.
-use Rattle.std.proofs.Common.{ℕ, ◌+◌, ◌*◌, ◌-◌, ◌^◌, ◌<◌, ◌≤◌, Bool, true, false, not, cond, ◌&&◌, ltb, ◌≡◌, ◌≢◌, ◌∙◌, ◌⊎◌, inl, inr, refl, sym, ap, subst, List, [], ◌∷◌, ◌++◌, length, get_or, set, replicate, get_or-set_other, arith}
+use Rattle.std.proofs.Common.{ℕ, ◌+◌, ◌^◌, ◌<◌, ◌≤◌, Bool, true, false, not, cond, ◌&&◌, ltb, ◌≡◌, ◌∙◌, ◌⊎◌, inl, inr, refl, sym, ap, subst, List, [], ◌∷◌, ◌++◌, length, set, get_or-set_other, arith}
 use Rattle.std.proofs.lemmas.List.{length-replicate, get_or-replicate}
 use Rattle.std.specs.Prelude.{nat_eq, unwrap_or, slice_get}
 use Rattle.std.specs.List.{IsDistinct, Contains, All}
-use Rattle.qe_tower.specs.Point.{Point, IsPoint}
 use Rattle.qe_form.specs.Formula.{Formula, Formulas, True, False, Atom, And, Or, Not, Implies, Iff, Ex, All as ForAll, no_more, more}
 use Rattle.qe_form.specs.Tree.{tree}
-use Rattle.qe_form.specs.Truth.{Is}
-use Rattle.qe_form.specs.Same.{IsFree, IsFreeInSome, Gives, Same}
+use Rattle.qe_form.specs.Same.{IsFree, IsFreeInSome, Same}
 use Rattle.qe_form.specs.Measures.{count}
 use Rattle.qe_form.specs.Plain.{IsPlain}
 use Rattle.qe_form.specs.Numbered as input_names
@@ -15,19 +13,17 @@ use Rattle.qe_form.specs.Numbered.{Occurs, OccursInOne, binders}
 use Rattle.qe_form.specs.Preserved.{Preserves, IsDecided, HasDecidedCore}
 use Rattle.qe_form.proofs.Sameness.{same_is_preorder, same_is_kept}
 use Rattle.qe_form.proofs.Preservation.{preserves_is_same}
-use Rattle.qe_norm.specs.declared.prenex.Block.{Block}
 use Rattle.qe_norm.specs.declared.prenex.Prenex.{Prenex}
 use Rattle.qe_norm.specs.NormalForm.{normal_form, quantified_if}
-use Rattle.qe_norm.specs.Numbering.{Walked, is_copy, number, after, within, numbered, start}
-use Rattle.qe_norm.specs.Blocks.{prefix, matrix, grouped, meaning, variables}
+use Rattle.qe_norm.specs.Numbering.{Walked, is_copy, numbered, start}
+use Rattle.qe_norm.specs.Blocks.{prefix, matrix, meaning, variables}
 use Rattle.qe_norm.specs.Prenex.{walk, size, IsPrenexOf, stands_for, IsWellNumbered}
-use Rattle.qe_norm.proofs.Opened.{normal_form_is, free_normal, normal_free, normal_is_same, decided_normal}
+use Rattle.qe_norm.proofs.Opened.{normal_form_is, free_normal, normal_is_same, decided_normal}
 use Rattle.qe_norm.proofs.Binders.{Binds, BindsIn, nested, contains_binder, binds_normal, ready}
-use Rattle.qe_norm.proofs.Steps.{IsWalked, IsTaken, is_met}
-use Rattle.qe_norm.proofs.Renamings.{IsSource, image, seen}
-use Rattle.qe_norm.proofs.Outwards.{under, IsVariable, prefix_binds, free_under, free_prenex, outwards}
+use Rattle.qe_norm.proofs.Steps.{IsTaken, is_met}
+use Rattle.qe_norm.proofs.Outwards.{under, prefix_binds, free_under, free_prenex, outwards}
 use Rattle.qe_norm.proofs.Walks.{Fits, Made, made, body_fits, as_ex}
-use Rattle.qe_norm.proofs.Grouping.{meaning_grouped, variables_grouped, few_grouped, short_grouped, vars_of}
+use Rattle.qe_norm.proofs.Grouping.{meaning_grouped, variables_grouped, few_grouped, short_grouped}
 use Rattle.qe_norm.proofs.Matrices.{own_prefix, contained, occurs_under, occurs_matrix, plain_matrix, count_parts}
 
 -- ---- what occurs in the formula that is read

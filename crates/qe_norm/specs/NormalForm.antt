@@ -1,5 +1,5 @@
 -- The normal form: implications and equivalences are opened, and negations move to the atoms.
-use Rattle.std.specs.Prelude.{Bool, true, false, not, cond, ℕ, ◌+◌, ◌*◌}
+use Rattle.std.specs.Prelude.{Bool, true, false, not, cond, ℕ}
 use Rattle.qe_form.specs.declared.signs.Signs.{Signs}
 use Rattle.qe_form.specs.Signs.{complement}
 use Rattle.qe_form.specs.Formula.{Formula, Formulas, True, False, Atom, And, Or, Not, Implies, Iff, Ex, All, no_more, more}

@@ -3,7 +3,7 @@
 use Rattle.std.specs.Prelude.{ℕ, Bool, true, false, cond, ◌&&◌, nat_lt, List, [], ◌∷◌, ◌++◌, length, replicate, slice_index_or, slice_get, slice_set, unwrap_or}
 use Rattle.qe_poly.specs.Polynomial.{Polynomial}
 use Rattle.qe_poly.specs.Renamed.{renamed}
-use Rattle.qe_form.specs.Formula.{Formula, Formulas, True, False, Atom, And, Or, Not, Implies, Iff, Ex, All, no_more, more}
+use Rattle.qe_form.specs.Formula.{Formula, Formulas, Atom, And, Or, Ex, All, no_more, more}
 use Rattle.qe_norm.specs.declared.walk.Renaming.{Renaming}
 
 -- which variables a quantifier was met for, and the names so far

@@ -1,12 +1,11 @@
 -- The prenex form of a formula, and what is known of it.
-use Rattle.std.specs.Prelude.{ℕ, ◌+◌, ◌-◌, ◌^◌, ◌<◌, ◌≤◌, ◌≡◌, true, List, [], length, nat_eq, Result, Ok, Err}
+use Rattle.std.specs.Prelude.{ℕ, ◌-◌, ◌^◌, ◌<◌, ◌≤◌, ◌≡◌, true, List, [], length, nat_eq, Result, Ok, Err}
 use Rattle.std.specs.List.{IsDistinct, Contains, All}
 use Rattle.qe_form.specs.Formula.{Formula}
 use Rattle.qe_form.specs.Tree.{tree}
 use Rattle.qe_form.specs.Same.{IsFree}
 use Rattle.qe_form.specs.Measures.{count}
 use Rattle.qe_form.specs.Numbered.{Occurs}
-use Rattle.qe_norm.specs.declared.prenex.Block.{Block}
 use Rattle.qe_norm.specs.declared.prenex.Prenex.{Prenex}
 use Rattle.qe_norm.specs.declared.prenex.NormStop.{NormStop}
 use Rattle.qe_norm.specs.declared.prenex.NormStop.TheVariants.{TooLarge, OutOfMemory}

@@ -2,7 +2,6 @@
 use Rattle.std.proofs.Common.{◌≡◌, refl, sym, ap, subst, ◌∙◌, ℕ, ◌+◌, ◌<◌, ◌≤◌, eqb, ltb, Bool, true, false, cond, ◌||◌, [], ◌∷◌, arith}
 use Rattle.std.proofs.lemmas.Bool.{eqb-true}
 use Rattle.std.proofs.lemmas.Bool.Decides.{nat_tests}
-use Rattle.std.specs.declared.cmp.Ordering.{Ordering}
 use Rattle.std.specs.declared.cmp.Ordering.TheVariants.{Less, Equal, Greater}
 use Rattle.std.specs.Ordering.{nat_cmp}
 use Rattle.std.specs.Cmp.{tied_itself}
@@ -14,7 +13,7 @@ use Rattle.qe_poly.specs.Monomial.{Monomial, IsMonomial, IsAbove, is_high, power
 use Rattle.qe_poly.specs.Coefficients.{exponent_of, without}
 use Rattle.qe_poly.specs.Renamed.{stands_in, renamed_var, renamed_monomial}
 use Rattle.qe_poly.proofs.Order.{turn_total}
-use Rattle.qe_poly.proofs.Parts.{nat_less, nat_greater, above_lower, IsMonomial-without, is_high-without, without-less, tie_no_way}
+use Rattle.qe_poly.proofs.Parts.{nat_less, nat_greater, above_lower, is_high-without, without-less, tie_no_way}
 use Rattle.qe_poly.proofs.Products.{IsMonomial-times}
 use Rattle.qe_poly.proofs.RenamedValues.{neither}
 

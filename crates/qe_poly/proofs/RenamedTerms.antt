@@ -1,5 +1,5 @@
 -- The terms of a polynomial with y in the place of x, sorted: they are the polynomial that they add up to.
-use Rattle.std.proofs.Common.{◌≡◌, ◌≢◌, refl, sym, ap, subst, ◌∙◌, ℕ, zero, suc, ◌+◌, ◌<◌, ◌≤◌, Bool, true, false, cond, T, not, ◌&&◌, ◌||◌, List, [], ◌∷◌, ◌++◌, map, length, get_or, drop, ℤ, pos, negsuc, ◌+ℤ◌, arith}
+use Rattle.std.proofs.Common.{◌≡◌, ◌≢◌, refl, sym, ap, subst, ◌∙◌, ℕ, suc, ◌+◌, ◌≤◌, Bool, true, false, cond, T, not, ◌&&◌, List, [], ◌∷◌, map, get_or, ℤ, pos, negsuc, ◌+ℤ◌, arith}
 use Rattle.std.proofs.lemmas.Int.{ints}
 use Rattle.std.specs.declared.cmp.Ordering.{Ordering}
 use Rattle.std.specs.declared.cmp.Ordering.TheVariants.{Less, Equal, Greater}
@@ -14,8 +14,8 @@ use Rattle.std.proofs.lemmas.List.Sums.{sum_by-cons}
 use Rattle.std.proofs.lemmas.List.Elements.{All-nil, All-cons, All-head, All-tail}
 use Rattle.qe_poly.specs.declared.monomial.Var.{Var}
 use Rattle.qe_poly.specs.declared.term.Term as kept
-use Rattle.qe_poly.specs.Monomial.{Monomial, IsMonomial, monomial_cmp, in_turn}
-use Rattle.qe_poly.specs.Polynomial.{Term, Polynomial, IsBelow, IsPolynomial, collected, coefficient}
+use Rattle.qe_poly.specs.Monomial.{Monomial, IsMonomial, in_turn}
+use Rattle.qe_poly.specs.Polynomial.{Term, Polynomial, IsPolynomial, coefficient}
 use Rattle.qe_poly.specs.Order.{term_cmp}
 use Rattle.qe_poly.specs.Rows.{shown}
 use Rattle.qe_poly.specs.Renamed.{stands_in, stands_in_some, renamed_monomial, with_renamed_terms, renamed}

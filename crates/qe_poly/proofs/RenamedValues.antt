@@ -1,10 +1,10 @@
 -- The value of a polynomial with y in the place of x is its value where x has the value of y, in every ring.
-use Rattle.std.proofs.Common.{◌≡◌, refl, sym, ap, subst, ℕ, eqb, Bool, true, false, cond, not, ◌&&◌, ◌||◌, List, [], ◌∷◌, map, ℤ, arith}
+use Rattle.std.proofs.Common.{◌≡◌, refl, sym, ap, subst, ℕ, eqb, Bool, true, false, cond, not, ◌&&◌, ◌||◌, [], ◌∷◌, map, ℤ, arith}
 use Rattle.std.proofs.lemmas.Bool.Decides.{nat_tests}
 use Rattle.qe_ring.specs.Ring.{Operations, IsRing}
 use Rattle.qe_poly.specs.declared.monomial.Var.{Var}
 use Rattle.qe_poly.specs.Monomial.{Monomial, power}
-use Rattle.qe_poly.specs.Polynomial.{Term, Polynomial, collected}
+use Rattle.qe_poly.specs.Polynomial.{Polynomial}
 use Rattle.qe_poly.specs.Value.{power_of, monomial_value, value, updated, IsWhole}
 use Rattle.qe_poly.specs.Renamed.{stands_in, stands_in_some, renamed_var, renamed_monomial, with_renamed_terms, renamed}
 use Rattle.qe_poly.proofs.Values.{collected-value, power-at}

@@ -1,5 +1,5 @@
 -- A polynomial with one variable in the place of another.
-use Rattle.std.specs.Prelude.{ℕ, Bool, cond, eqb, not, ◌&&◌, List, [], ◌∷◌, map}
+use Rattle.std.specs.Prelude.{ℕ, Bool, cond, eqb, not, ◌&&◌, [], ◌∷◌, map}
 use Rattle.std.specs.List.{list_any}
 use Rattle.qe_poly.specs.declared.monomial.Var.{Var}
 use Rattle.qe_poly.specs.Monomial.{Monomial, power, times}

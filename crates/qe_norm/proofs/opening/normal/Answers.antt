@@ -1,10 +1,10 @@
-use Rattle.std.proofs.Common.{◌≡◌, ◌≤◌, refl}
+use Rattle.std.proofs.Common.{◌≤◌, refl}
 use Rattle.qe_form.specs.Tree.{tree}
 use Rattle.qe_form.specs.Same.{Same}
 use Rattle.qe_form.specs.Measures.{count}
 use Rattle.qe_form.specs.Plain.{IsPlain}
 use Rattle.qe_form.specs.Preserved.{Preserves, HasDecidedCore}
-use Rattle.qe_norm.specs.Prenex.{size, IsWellNumbered, stands_for}
+use Rattle.qe_norm.specs.Prenex.{IsWellNumbered, stands_for}
 use Rattle.qe_norm.proofs.Assembled.{too_large, small_enough, of_answer, exact_answer}
 use Rattle.qe_norm.proofs.Wholes.{keeps, same, well_numbered, plain, small}
 use Rattle.qe_norm.proofs.opening.normal.Goals as goal

@@ -1,5 +1,5 @@
 use Rattle.std.proofs.Common.{◌∙◌, ap}
-use Rattle.qe_form.specs.Tree.{tree, trees}
+use Rattle.qe_form.specs.Tree.{tree}
 use Rattle.qe_form.proofs.Trees.{left_none, made_more, made_all}
 use Rattle.qe_norm.specs.Numbering.{walked}
 use Rattle.qe_norm.specs.Walk.{opened, opened_each}

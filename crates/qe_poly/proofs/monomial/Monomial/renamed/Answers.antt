@@ -1,4 +1,4 @@
-use Rattle.std.proofs.Common.{◌≡◌, ◌≤◌, ◌∙◌, MatchOption, subst, true, false, arith}
+use Rattle.std.proofs.Common.{◌≡◌, ◌∙◌, MatchOption, subst, true, false}
 use Rattle.qe_poly.specs.Monomial.{times, is_high}
 use Rattle.qe_poly.proofs.RenamedMonomials.{exponent_low_from, never_high, made_is}
 use Rattle.qe_poly.proofs.monomial.Monomial.renamed.Goals as goal

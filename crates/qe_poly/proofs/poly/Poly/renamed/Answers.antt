@@ -1,6 +1,6 @@
 use Rattle.std.proofs.Common.{◌∙◌, sym, ap, map}
 use Rattle.qe_poly.specs.Rows.{shown}
-use Rattle.qe_poly.specs.Renamed.{stands_in_some, renamed, renamed_monomial}
+use Rattle.qe_poly.specs.Renamed.{stands_in_some, renamed}
 use Rattle.qe_poly.proofs.RenamedTerms.{made, sorted_canonical, sorted_renamed}
 use Rattle.qe_poly.proofs.poly.Poly.renamed.Goals as goal
 
