@@ -1,5 +1,5 @@
 mod Values
-mod RootValue
+pub mod RootValue
 mod SignTable
-mod SignTruth
-mod RootLaws
+pub mod SignTruth
+pub mod RootLaws

@@ -1,1 +1,15 @@
 pub mod Slope
+pub mod ProperSigns
+pub mod Made
+pub mod Sizes
+pub mod Turns
+pub mod TestFormulas
+pub mod SignTests
+pub mod Degrees
+pub mod OnLine
+pub mod AtRoot
+pub mod Truth
+pub mod JustAbove
+pub mod FarBelow
+pub mod PlainResult
+pub mod LeftOver

@@ -1,5 +1,5 @@
 -- The derivative in a variable: its degree and its coefficients.
-use Rattle.std.proofs.Common.{ℕ, zero, suc, ◌≡◌, ◌≢◌, ◌∙◌, ◌<◌, ◌≤◌, ◌-◌, ◌+◌, ◌*◌, max, refl, sym, ap, ap₂, subst, Bool, true, false, cond, eqb, ℤ, pos, negsuc, ◌*ℤ◌, unsigned_abs, [], ◌∷◌, ◌++◌, arith}
+use Rattle.std.proofs.Common.{ℕ, zero, suc, ◌≡◌, ◌≢◌, ◌∙◌, ◌<◌, ◌-◌, ◌*◌, max, refl, sym, ap, ap₂, subst, true, false, cond, eqb, ℤ, pos, negsuc, ◌*ℤ◌, unsigned_abs, [], ◌∷◌, ◌++◌, arith}
 use Rattle.std.proofs.Math.IntN.{*ℤ-zero}
 use Rattle.std.proofs.lemmas.Int.{unsigned_abs-mul}
 use Rattle.std.proofs.lemmas.Bool.{eqb-true}

@@ -2,3 +2,4 @@ pub mod Fault
 pub mod Substituted
 pub mod Stop
 pub mod Left
+pub mod Canonical

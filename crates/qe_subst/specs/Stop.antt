@@ -20,6 +20,10 @@ after n [] = n
 after n (a ∷ rest) = after (next n) rest
 
 module _ (x : ℕ) (point : Point) (own : Option Polynomial) where
+  -- the limit at the atom with number n
+  abbrev pub limit_at : ℕ → atom.Atom → Option SubstStop
+  limit_at n a = elim (fault_of x point own a) [ Some fault ↦ Some (At n fault.stage fault.limit) | None ↦ None ]
+
   -- the first limit in the order of the atoms, of which the first has number n
   abbrev pub first_limit : ℕ → List atom.Atom → Option SubstStop
   first_limit n [] = None
@@ -33,8 +37,12 @@ module _ (x : ℕ) (point : Point) (own : Option Polynomial) where
   abbrev pub stop : Formula → Option SubstStop
   stop f = elim (first_limit 0 (atoms f)) [ Some met ↦ Some met | None ↦ size_limit f ]
 
+-- the stop is that one, or want of memory
+abbrev pub IsStop : Option SubstStop → SubstStop → Type 0
+IsStop limit OutOfMemory = Unit {0}
+IsStop limit met = limit ≡ Some met
+
 -- the stop where there is one, and else a result of which P holds; want of memory may come in place of either
 abbrev pub IsOutcome : {A : Type 0} → Option SubstStop → (A → Type 0) → Result A SubstStop → Type 0
-IsOutcome stop P (Ok a) = (stop ≡ None) × P a
-IsOutcome stop P (Err OutOfMemory) = Unit {0}
-IsOutcome stop P (Err met) = stop ≡ Some met
+IsOutcome limit P (Ok a) = (limit ≡ None) × P a
+IsOutcome limit P (Err met) = IsStop limit met

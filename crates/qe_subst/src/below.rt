@@ -69,11 +69,11 @@ pub fn everywhere(
 fn line_below(alloc: Global, x: Var, poly: &Poly, signs: Signs) -> Result<Form, OutOfMemory>
     ensures { IfOk result (λ f. tree f ≡ spec.line_below x.0 poly.now signs) }
 {
-    let turned = coefficient(alloc, x, poly, 1, strict(signs).mirror())?;
+    let opposite = coefficient(alloc, x, poly, 1, strict(signs).mirror())?;
     let zero = coefficient(alloc, x, poly, 1, equal())?;
     let rest = coefficient(alloc, x, poly, 0, signs)?;
     let flat = both(alloc, zero, rest)?;
-    either(alloc, turned, flat)
+    either(alloc, opposite, flat)
 }
 
 /// Both a and b are zero, and c has a sign of the set.

@@ -2,6 +2,7 @@
 //! Knows nothing of candidates, guards and nodes, nor of how a formula is simplified.
 #![tactic(auto)]
 
+mod atom;
 mod below;
 mod connective;
 mod formula;
@@ -9,6 +10,8 @@ mod near;
 mod root;
 mod signs;
 mod stop;
+#[cfg(test)]
+mod tests;
 
 pub use formula::substitute;
 pub use qe_root::{

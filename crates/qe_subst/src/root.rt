@@ -29,12 +29,7 @@ fn is_own(own: Option<&Poly>, poly: &Poly) -> bool
 }
 
 /// The parts A and B of the polynomial's value at the root.
-fn parts(
-    alloc: Global,
-    x: Var,
-    root: &RootPoint,
-    poly: &Poly,
-) -> Result<(Poly, Poly), AtomStop>
+fn parts(alloc: Global, x: Var, root: &RootPoint, poly: &Poly) -> Result<(Poly, Poly), AtomStop>
     requires { degree_in x.0 poly.now ≤ 2 }
     ensures { IsOutcome (in_stage stage.Root (value.value_limit poly.now x.0 root.now))
         (λ parts. (parts.0 ≡ value.plain_part_of poly.now x.0 root.now) × (parts.1 ≡ value.root_part_of poly.now x.0 root.now)) result }

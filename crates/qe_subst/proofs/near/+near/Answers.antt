@@ -20,5 +20,5 @@ pub near_slope-returns : goal.near_slope-returns
 near_slope-returns t c =
     let positive : 0 < degree_in c.args.x.0 c.args.slope = omega arith in
     let Made : ℕ → Type 0 = λ n. IsOutcome (near_fault c.args.x.0 (option_copied c.args.own) c.args.root.now n c.args.slope c.args.signs)
-        (λ f. tree f ≡ near c.args.x.0 (option_copied c.args.own) c.args.root.now n c.args.slope c.args.signs) c.near.result in
+    (λ f. tree f ≡ near c.args.x.0 (option_copied c.args.own) c.args.root.now n c.args.slope c.args.signs) c.near.result in
     subst Made (slope_below c.args.x.0 c.args.slope c.degree_in.ensures.canonical positive) c.near.ensures

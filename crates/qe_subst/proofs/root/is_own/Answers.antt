@@ -1,4 +1,4 @@
-use Rattle.std.proofs.Common.{◌≡◌, ◌∙◌, sym, ap, option_copied}
+use Rattle.std.proofs.Common.{◌∙◌, sym, ap, option_copied}
 use Rattle.qe_subst.specs.Substituted.{is_own}
 use Rattle.qe_subst.proofs.root.is_own.Goals as goal
 

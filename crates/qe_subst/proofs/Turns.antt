@@ -1,0 +1,92 @@
+-- The loop over the parts of an And or an Or: the first limit, and the number of the next atom.
+use Rattle.std.proofs.Common.{ℕ, ◌≡◌, ◌≤◌, ◌∙◌, refl, sym, ap, subst, arith, List, [], ◌∷◌, ◌++◌, Option, Some, None}
+use Rattle.qe_poly.specs.Polynomial.{Polynomial}
+use Rattle.qe_form.specs.declared.form.Atom as atom
+use Rattle.qe_form.specs.Formula.{Formula, Formulas, more, no_more}
+use Rattle.qe_form.specs.Measures.{degree, degree_of_some}
+use Rattle.qe_form.specs.Plain.{IsPlainWith, ArePlainWith}
+use Rattle.qe_root.specs.declared.point.Point.{Point}
+use Rattle.qe_root.specs.declared.stop.SubstStop.{SubstStop}
+use Rattle.qe_root.specs.declared.stop.SubstStop.TheVariants.{At, TooLarge, OutOfMemory}
+use Rattle.qe_root.specs.Atoms.{atoms, atoms_of}
+use Rattle.qe_subst.specs.Substituted.{fault_of}
+use Rattle.qe_subst.specs.Stop.{next, after, first_limit, IsStop}
+
+no_limit : (s : SubstStop) → ◌≡◌ {A = Option SubstStop} (Some s) None → ⊥
+no_limit s none = cc
+
+module _ (x : ℕ) (point : Point) (own : Option Polynomial) where
+  -- a limit among the first atoms is the first of all
+  limit_found : (n : ℕ) (front back : List atom.Atom) (s : SubstStop) → first_limit x point own n front ≡ Some s → first_limit x point own n (front ++ back) ≡ Some s
+  limit_found n [] back s found = absurd (cc)
+  limit_found n (a ∷ front) back s found =
+      elim (fault_of x point own a) as (λ fault. elim fault [ Some f ↦ Some (At n f.stage f.limit) | None ↦ first_limit x point own (next n) front ] ≡ Some s
+      → elim fault [ Some f ↦ Some (At n f.stage f.limit) | None ↦ first_limit x point own (next n) (front ++ back) ] ≡ Some s) [
+        | Some f ↦ λ h. h
+        | None ↦ λ h. limit_found (next n) front back s h
+      ] found
+
+  -- where they have none, it is that of the others
+  limit_passed : (n : ℕ) (front back : List atom.Atom) → first_limit x point own n front ≡ None → first_limit x point own n (front ++ back) ≡ first_limit x point own (after n front) back
+  limit_passed n [] back none = refl
+  limit_passed n (a ∷ front) back none =
+      elim (fault_of x point own a) as (λ fault. ◌≡◌ {A = Option SubstStop} (elim fault [ Some f ↦ Some (At n f.stage f.limit) | None ↦ first_limit x point own (next n) front ]) None
+      → ◌≡◌ {A = Option SubstStop} (elim fault [ Some f ↦ Some (At n f.stage f.limit) | None ↦ first_limit x point own (next n) (front ++ back) ]) (first_limit x point own (after (next n) front) back)) [
+        | Some f ↦ λ h. absurd (no_limit (At n f.stage f.limit) h)
+        | None ↦ λ h. limit_passed (next n) front back h
+      ] none
+
+  stop_found : (n : ℕ) (front back : List atom.Atom) (s : SubstStop) → IsStop (first_limit x point own n front) s → IsStop (first_limit x point own n (front ++ back)) s
+  stop_found n front back (At number stage limit) found = limit_found n front back (At number stage limit) found
+  stop_found n front back TooLarge found = limit_found n front back TooLarge found
+  stop_found n front back OutOfMemory found = tt
+
+  -- in the loop: t is the next part, before what is left
+  pub turn_stops : (n : ℕ) (t : Formula) (left rest : Formulas) (limit : Option SubstStop) (s : SubstStop) → left ≡ more t rest
+      → first_limit x point own n (atoms_of left) ≡ limit → IsStop (first_limit x point own n (atoms t)) s → IsStop limit s
+  turn_stops n t left rest limit s taken before found =
+      subst (λ l. IsStop l s) (sym (ap (λ fs. first_limit x point own n (atoms_of fs)) taken) ∙ before) (stop_found n (atoms t) (atoms_of rest) s found)
+
+  pub turn_passes : (n m : ℕ) (t : Formula) (left rest : Formulas) (limit : Option SubstStop) → left ≡ more t rest → m ≡ after n (atoms t)
+      → first_limit x point own n (atoms t) ≡ None → first_limit x point own n (atoms_of left) ≡ limit → first_limit x point own m (atoms_of rest) ≡ limit
+  turn_passes n m t left rest limit taken counted none before =
+      ap (λ k. first_limit x point own k (atoms_of rest)) counted
+      ∙ (sym (limit_passed n (atoms t) (atoms_of rest) none) ∙ (sym (ap (λ fs. first_limit x point own n (atoms_of fs)) taken) ∙ before))
+
+  pub loop_passes : (n : ℕ) (left : Formulas) (limit : Option SubstStop) → left ≡ no_more → first_limit x point own n (atoms_of left) ≡ limit → limit ≡ None
+  loop_passes n left limit none before = sym before ∙ ap (λ fs. first_limit x point own n (atoms_of fs)) none
+
+-- ---- the number
+
+after_both : (n : ℕ) (front back : List atom.Atom) → after n (front ++ back) ≡ after (after n front) back
+after_both n [] back = refl
+after_both n (a ∷ front) back = after_both (next n) front back
+
+pub turn_counts : (n m end : ℕ) (t : Formula) (left rest : Formulas) → left ≡ more t rest → m ≡ after n (atoms t)
+    → after n (atoms_of left) ≡ end → after m (atoms_of rest) ≡ end
+turn_counts n m end t left rest taken counted before =
+    ap (λ k. after k (atoms_of rest)) counted ∙ (sym (after_both n (atoms t) (atoms_of rest)) ∙ (sym (ap (λ fs. after n (atoms_of fs)) taken) ∙ before))
+
+pub loop_counts : (n end : ℕ) (left : Formulas) → left ≡ no_more → after n (atoms_of left) ≡ end → n ≡ end
+loop_counts n end left none before = sym (ap (λ fs. after n (atoms_of fs)) none) ∙ before
+
+-- ---- what is asked of each part
+
+pub turn_degree : (x : ℕ) (t : Formula) (left rest : Formulas) → left ≡ more t rest → degree_of_some x left ≤ 2 → degree x t ≤ 2
+turn_degree x t left rest taken low = let same = ap (degree_of_some x) taken in omega (arith, same)
+
+pub rest_degree : (x : ℕ) (t : Formula) (left rest : Formulas) → left ≡ more t rest → degree_of_some x left ≤ 2 → degree_of_some x rest ≤ 2
+rest_degree x t left rest taken low = let same = ap (degree_of_some x) taken in omega (arith, same)
+
+module _ (P : atom.Atom → Type 0) where
+  pub turn_plain : (t : Formula) (left rest : Formulas) → left ≡ more t rest → ArePlainWith P left → IsPlainWith P t
+  turn_plain t left rest taken plain = let each : ArePlainWith P (more t rest) = subst (λ fs. ArePlainWith P fs) taken plain in each.0
+
+  pub rest_plain : (t : Formula) (left rest : Formulas) → left ≡ more t rest → ArePlainWith P left → ArePlainWith P rest
+  rest_plain t left rest taken plain = let each : ArePlainWith P (more t rest) = subst (λ fs. ArePlainWith P fs) taken plain in each.1
+
+  pub whole_plain : (t : Formula) (left rest : Formulas) → left ≡ more t rest → IsPlainWith P t → ArePlainWith P rest → ArePlainWith P left
+  whole_plain t left rest taken first others = let each : ArePlainWith P (more t rest) = (first, others) in subst (λ fs. ArePlainWith P fs) (sym taken) each
+
+  pub none_plain : (left : Formulas) → left ≡ no_more → ArePlainWith P left
+  none_plain left none = subst (λ fs. ArePlainWith P fs) (sym none) tt

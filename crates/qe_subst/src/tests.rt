@@ -1,0 +1,600 @@
+//! Substitutions worked out by hand. The variables are `a`, `b`, `c` and `x`, numbered from 0, and `x` is substituted.
+
+ghost use Rattle.std.specs.Prelude.{◌≡◌, ◌≤◌, IfOk, max};
+ghost use Rattle.qe_form.specs.Measures.{degree};
+ghost use Rattle.qe_form.specs.Plain.{IsPlainAndProper};
+ghost use Rattle.qe_form.specs.Tree.{tree};
+
+use crate::{
+    Form, Forms, OutOfMemory, Point, Poly, PolyLimit, PolyStop, RootPoint, Signs, Stage, SubstStop,
+    Var, substitute,
+};
+use qe_coef::{Coef, Op, Wide};
+use qe_form::{Atom, Sequence};
+use qe_poly::Term;
+use std::alloc::Global;
+use std::fmt::Write;
+use std::test::Fail;
+
+/// The greatest coefficient.
+const MOST: i128 = i128::MAX;
+
+const X: Var = Var(3);
+
+/// `numbers[0]*a + numbers[1]*b + numbers[2]*c + numbers[3]`.
+type Linear = [i128; 4];
+
+const ZERO: Linear = [0, 0, 0, 0];
+
+const ONE: Linear = [0, 0, 0, 1];
+
+const A: Linear = [1, 0, 0, 0];
+
+const B: Linear = [0, 1, 0, 0];
+
+const C: Linear = [0, 0, 1, 0];
+
+fn coef(value: i128) -> Coef {
+    Coef::of(value).unwrap_or(Coef::zero())
+}
+
+fn linear(alloc: Global, numbers: Linear) -> Result<Poly, PolyStop> {
+    let a = Poly::power(alloc, Var(0), 1)?.scale(alloc, coef(numbers[0]))?;
+    let b = Poly::power(alloc, Var(1), 1)?.scale(alloc, coef(numbers[1]))?;
+    let c = Poly::power(alloc, Var(2), 1)?.scale(alloc, coef(numbers[2]))?;
+    let number = Poly::constant(alloc, coef(numbers[3]))?;
+    a.add(alloc, &b)?.add(alloc, &c)?.add(alloc, &number)
+}
+
+/// The polynomial in `x` with the three coefficients.
+fn quadratic(alloc: Global, coefficients: [Linear; 3]) -> Result<Poly, PolyStop> {
+    let x = Poly::power(alloc, X, 1)?;
+    let square = linear(alloc, coefficients[0])?.mul(alloc, &x)?;
+    let line = square
+        .add(alloc, &linear(alloc, coefficients[1])?)?
+        .mul(alloc, &x)?;
+    line.add(alloc, &linear(alloc, coefficients[2])?)
+}
+
+/// The root `(p + q*sqrt(r))/s`.
+fn root(alloc: Global, parts: [Linear; 4]) -> Result<RootPoint, PolyStop> {
+    Ok(RootPoint {
+        p: linear(alloc, parts[0])?,
+        q: linear(alloc, parts[1])?,
+        r: linear(alloc, parts[2])?,
+        s: linear(alloc, parts[3])?,
+    })
+}
+
+/// A term without its sign, as `2*a^2*b`.
+fn push_term(out: &mut String, term: &Term) -> Result<(), OutOfMemory> {
+    let magnitude = term.coef.magnitude().value();
+    let powers = term.monomial.powers();
+    let mut before = "";
+    if magnitude != 1 || powers.is_empty() {
+        write!(out, "{magnitude}")?;
+        before = "*";
+    }
+    for power in powers {
+        out.push_str(before)?;
+        out.push_str(name(power.var))?;
+        if power.exponent != 1 {
+            write!(out, "^{}", power.exponent)?;
+        }
+        before = "*";
+    }
+    Ok(())
+}
+
+fn name(var: Var) -> &'static str {
+    match var.0 {
+        0 => "a",
+        1 => "b",
+        2 => "c",
+        _ => "x",
+    }
+}
+
+fn push_poly(out: &mut String, poly: &Poly) -> Result<(), OutOfMemory> {
+    let mut signs = ("-", "");
+    for term in poly.terms() {
+        out.push_str(if term.coef.value() < 0 {
+            signs.0
+        } else {
+            signs.1
+        })?;
+        push_term(out, term)?;
+        signs = (" - ", " + ");
+    }
+    if poly.terms().is_empty() {
+        out.push_str("0")?;
+    }
+    Ok(())
+}
+
+fn relation(signs: Signs) -> &'static str {
+    match signs.bits() {
+        1 => " < 0",
+        2 => " = 0",
+        3 => " <= 0",
+        4 => " > 0",
+        5 => " <> 0",
+        6 => " >= 0",
+        _ => " ?",
+    }
+}
+
+/// Each list of parts stands in brackets.
+#[cycle(push_form)]
+fn push_form(out: &mut String, form: &Form) -> Result<(), OutOfMemory> {
+    match form {
+        Form::True => out.push_str("true"),
+        Form::False => out.push_str("false"),
+        Form::Atom(atom) => {
+            push_poly(out, &atom.poly)?;
+            out.push_str(relation(atom.signs))
+        }
+        Form::And(parts) => push_parts(out, parts, " and "),
+        Form::Or(parts) => push_parts(out, parts, " or "),
+        _ => out.push_str("?"),
+    }
+}
+
+#[cycle(push_form)]
+fn push_parts(out: &mut String, parts: &Forms, word: &str) -> Result<(), OutOfMemory> {
+    for (place, part) in parts.items().iter().enumerate() {
+        out.push_str(if place == 0 { "[" } else { word })?;
+        push_form(out, part)?;
+    }
+    out.push_str("]")
+}
+
+fn push_limit(out: &mut String, limit: PolyLimit) -> Result<(), OutOfMemory> {
+    match limit {
+        PolyLimit::Coefficient(wide) => {
+            let op = match wide.op {
+                Op::Add => "+",
+                Op::Sub => "-",
+                Op::Mul => "*",
+            };
+            write!(out, "{} {op} {}", wide.left.value(), wide.right.value())
+        }
+        PolyLimit::Exponent => out.push_str("exponent"),
+        PolyLimit::Monomials => out.push_str("monomials"),
+    }
+}
+
+fn stage_name(stage: Stage) -> &'static str {
+    match stage {
+        Stage::Guard => "guard",
+        Stage::Root => "root",
+        Stage::Sign => "sign",
+        Stage::Slope => "slope",
+    }
+}
+
+/// The formula, or the stop as `stage at atom: limit`.
+fn outcome_text(alloc: Global, outcome: Result<Form, SubstStop>) -> Result<String, OutOfMemory> {
+    let mut out = String::new(alloc);
+    match outcome {
+        Ok(form) => push_form(&mut out, &form)?,
+        Err(SubstStop::At { atom, stage, limit }) => {
+            write!(out, "{} at {atom}: ", stage_name(stage))?;
+            push_limit(&mut out, limit)?;
+        }
+        Err(SubstStop::TooLarge) => out.push_str("too large")?,
+        Err(SubstStop::OutOfMemory) => out.push_str("no memory")?,
+    }
+    Ok(out)
+}
+
+const LESS: u8 = 1;
+
+const EQUAL: u8 = 2;
+
+const AT_MOST: u8 = 3;
+
+const MORE: u8 = 4;
+
+const NOT_EQUAL: u8 = 5;
+
+const AT_LEAST: u8 = 6;
+
+fn signs_of(bits: u8) -> Signs {
+    Signs::of(bits % 2 == 1, bits / 2 % 2 == 1, bits / 4 % 2 == 1)
+}
+
+/// What stands for one atom, as text.
+fn atom_text(
+    alloc: Global,
+    poly: Poly,
+    bits: u8,
+    point: &Point,
+    own: Option<&Poly>,
+) -> Result<String, OutOfMemory> {
+    let signs = signs_of(bits);
+    let is_low = poly.degree_in(X) <= 2;
+    let form = Form::Atom(Atom { poly, signs });
+    if is_low && 0 < signs.bits() && signs.bits() < 7 {
+        outcome_text(alloc, substitute(alloc, &form, X, point, own))
+    } else {
+        Ok(String::new(alloc))
+    }
+}
+
+// The coefficients of x^2, x and 1, the relation, and what stands for the atom at a - a root without a square root - and just above it.
+#[test]
+fn substitutes_a_quotient(rt: HostRuntime) -> Result<(), Fail> {
+    let alloc = rt.alloc();
+    let minus_b = [0, -1, 0, 0];
+    let at = Point::Root(root(alloc, [A, ZERO, ZERO, ONE])?);
+    let above = Point::RootPlus(root(alloc, [A, ZERO, ZERO, ONE])?);
+    for (coefficients, bits, want_at, want_above) in [
+        // x - b
+        (
+            [ZERO, ONE, minus_b],
+            LESS,
+            "a - b < 0",
+            "[a - b < 0 or [a - b = 0 and 1 < 0]]",
+        ),
+        (
+            [ZERO, ONE, minus_b],
+            AT_MOST,
+            "a - b <= 0",
+            "[a - b < 0 or [a - b = 0 and 1 <= 0]]",
+        ),
+        (
+            [ZERO, ONE, minus_b],
+            EQUAL,
+            "a - b = 0",
+            "[1 = 0 and -b = 0]",
+        ),
+        (
+            [ZERO, ONE, minus_b],
+            NOT_EQUAL,
+            "a - b <> 0",
+            "[1 <> 0 or -b <> 0]",
+        ),
+        (
+            [ZERO, ONE, minus_b],
+            AT_LEAST,
+            "a - b >= 0",
+            "[a - b > 0 or [a - b = 0 and 1 >= 0]]",
+        ),
+        (
+            [ZERO, ONE, minus_b],
+            MORE,
+            "a - b > 0",
+            "[a - b > 0 or [a - b = 0 and 1 > 0]]",
+        ),
+        // b*x^2 + c: its slopes are 2*b*x and 2*b
+        (
+            [B, ZERO, C],
+            LESS,
+            "a^2*b + c < 0",
+            "[a^2*b + c < 0 or [a^2*b + c = 0 and [2*a*b < 0 or [2*a*b = 0 and 2*b < 0]]]]",
+        ),
+        (
+            [B, ZERO, C],
+            AT_LEAST,
+            "a^2*b + c >= 0",
+            "[a^2*b + c > 0 or [a^2*b + c = 0 and [2*a*b > 0 or [2*a*b = 0 and 2*b >= 0]]]]",
+        ),
+        (
+            [B, ZERO, C],
+            EQUAL,
+            "a^2*b + c = 0",
+            "[b = 0 and 0 = 0 and c = 0]",
+        ),
+        (
+            [B, ZERO, C],
+            NOT_EQUAL,
+            "a^2*b + c <> 0",
+            "[b <> 0 or 0 <> 0 or c <> 0]",
+        ),
+        // an atom without x stays
+        ([ZERO, ZERO, B], MORE, "b > 0", "b > 0"),
+    ] {
+        let at_text = atom_text(alloc, quadratic(alloc, coefficients)?, bits, &at, None)?;
+        assert_eq!(rt; at_text.as_str(), want_at);
+        let above_text = atom_text(alloc, quadratic(alloc, coefficients)?, bits, &above, None)?;
+        assert_eq!(rt; above_text.as_str(), want_above);
+    }
+    Ok(())
+}
+
+// The same at b + sqrt(c), where the sign form of A + B*sqrt(c) is needed.
+#[test]
+fn substitutes_a_square_root(rt: HostRuntime) -> Result<(), Fail> {
+    let alloc = rt.alloc();
+    let minus_a = [-1, 0, 0, 0];
+    let at = Point::Root(root(alloc, [B, ONE, C, ONE])?);
+    let above = Point::RootPlus(root(alloc, [B, ONE, C, ONE])?);
+    for (coefficients, bits, want_at, want_above) in [
+        // x - a: A is b - a, B is 1
+        (
+            [ZERO, ONE, minus_a],
+            EQUAL,
+            "[-a + b <= 0 and a^2 - 2*a*b + b^2 - c = 0]",
+            "[1 = 0 and -a = 0]",
+        ),
+        (
+            [ZERO, ONE, minus_a],
+            AT_MOST,
+            "[[-a + b <= 0 and a^2 - 2*a*b + b^2 - c >= 0] or [1 <= 0 and a^2 - 2*a*b + b^2 - c <= 0]]",
+            "[[[-a + b < 0 and a^2 - 2*a*b + b^2 - c > 0] or [1 <= 0 and [-a + b < 0 or a^2 - 2*a*b + b^2 - c < 0]]] or [[-a + b <= 0 and a^2 - 2*a*b + b^2 - c = 0] and 1 <= 0]]",
+        ),
+        // x^2 - a: A is b^2 + c - a, B is 2*b
+        (
+            [ONE, ZERO, minus_a],
+            NOT_EQUAL,
+            "[-2*a*b + 2*b^3 + 2*b*c > 0 or a^2 - 2*a*b^2 - 2*a*c + b^4 - 2*b^2*c + c^2 <> 0]",
+            "[1 <> 0 or 0 <> 0 or -a <> 0]",
+        ),
+    ] {
+        let at_text = atom_text(alloc, quadratic(alloc, coefficients)?, bits, &at, None)?;
+        assert_eq!(rt; at_text.as_str(), want_at);
+        let above_text = atom_text(alloc, quadratic(alloc, coefficients)?, bits, &above, None)?;
+        assert_eq!(rt; above_text.as_str(), want_above);
+    }
+    Ok(())
+}
+
+// The coefficients of x^2, x and 1, the relation, and what stands for the atom below all numbers.
+#[test]
+fn substitutes_minus_infinity(rt: HostRuntime) -> Result<(), Fail> {
+    let alloc = rt.alloc();
+    for (coefficients, bits, want) in [
+        ([ZERO, A, B], LESS, "[a > 0 or [a = 0 and b < 0]]"),
+        ([ZERO, A, B], AT_MOST, "[a > 0 or [a = 0 and b <= 0]]"),
+        ([ZERO, A, B], EQUAL, "[a = 0 and b = 0]"),
+        ([ZERO, A, B], NOT_EQUAL, "[a <> 0 or b <> 0]"),
+        ([ZERO, A, B], AT_LEAST, "[a < 0 or [a = 0 and b >= 0]]"),
+        ([ZERO, A, B], MORE, "[a < 0 or [a = 0 and b > 0]]"),
+        (
+            [A, B, C],
+            LESS,
+            "[a < 0 or [a = 0 and b > 0] or [a = 0 and b = 0 and c < 0]]",
+        ),
+        (
+            [A, B, C],
+            AT_MOST,
+            "[a < 0 or [a = 0 and b > 0] or [a = 0 and b = 0 and c <= 0]]",
+        ),
+        ([A, B, C], EQUAL, "[a = 0 and b = 0 and c = 0]"),
+        ([A, B, C], NOT_EQUAL, "[a <> 0 or b <> 0 or c <> 0]"),
+        (
+            [A, B, C],
+            AT_LEAST,
+            "[a > 0 or [a = 0 and b < 0] or [a = 0 and b = 0 and c >= 0]]",
+        ),
+        (
+            [A, B, C],
+            MORE,
+            "[a > 0 or [a = 0 and b < 0] or [a = 0 and b = 0 and c > 0]]",
+        ),
+        ([ZERO, ZERO, C], EQUAL, "c = 0"),
+    ] {
+        let text = atom_text(
+            alloc,
+            quadratic(alloc, coefficients)?,
+            bits,
+            &Point::MinusInf,
+            None,
+        )?;
+        assert_eq!(rt; text.as_str(), want);
+    }
+    Ok(())
+}
+
+// The point is 0, and its own polynomial 2*b*x. The coefficients of x^2, x and 1, the relation, and what stands at 0 and just above.
+#[test]
+fn knows_the_own_polynomial(rt: HostRuntime) -> Result<(), Fail> {
+    let alloc = rt.alloc();
+    let twice_b = [0, 2, 0, 0];
+    let own = quadratic(alloc, [ZERO, twice_b, ZERO])?;
+    let at = Point::Root(root(alloc, [ZERO, ZERO, ZERO, twice_b])?);
+    let above = Point::RootPlus(root(alloc, [ZERO, ZERO, ZERO, twice_b])?);
+    for (coefficients, bits, want_at, want_above) in [
+        (
+            [ZERO, twice_b, ZERO],
+            LESS,
+            "false",
+            "[false or [true and 2*b < 0]]",
+        ),
+        (
+            [ZERO, twice_b, ZERO],
+            AT_MOST,
+            "true",
+            "[false or [true and 2*b <= 0]]",
+        ),
+        ([ZERO, twice_b, ZERO], EQUAL, "true", "[2*b = 0 and 0 = 0]"),
+        (
+            [ZERO, twice_b, ZERO],
+            NOT_EQUAL,
+            "false",
+            "[2*b <> 0 or 0 <> 0]",
+        ),
+        (
+            [ZERO, twice_b, ZERO],
+            AT_LEAST,
+            "true",
+            "[false or [true and 2*b >= 0]]",
+        ),
+        (
+            [ZERO, twice_b, ZERO],
+            MORE,
+            "false",
+            "[false or [true and 2*b > 0]]",
+        ),
+        // it is the slope of b*x^2 + c, where (2*b)^2*c is the value at 0 times the square of the divisor
+        (
+            [B, ZERO, C],
+            LESS,
+            "4*b^2*c < 0",
+            "[4*b^2*c < 0 or [4*b^2*c = 0 and [false or [true and 2*b < 0]]]]",
+        ),
+    ] {
+        let at_text = atom_text(
+            alloc,
+            quadratic(alloc, coefficients)?,
+            bits,
+            &at,
+            Some(&own),
+        )?;
+        assert_eq!(rt; at_text.as_str(), want_at);
+        let above_text = atom_text(
+            alloc,
+            quadratic(alloc, coefficients)?,
+            bits,
+            &above,
+            Some(&own),
+        )?;
+        assert_eq!(rt; above_text.as_str(), want_above);
+    }
+    Ok(())
+}
+
+// The coefficients of x^2, x and 1, the relation, then p, q, r and s, and the first limit at the root and just above it.
+#[test]
+fn tells_the_first_limit(rt: HostRuntime) -> Result<(), Fail> {
+    let alloc = rt.alloc();
+    let most = [0, 0, 0, MOST];
+    let two = [0, 0, 0, 2];
+    for (coefficients, bits, parts, want) in [
+        // M*x + 1 at M
+        (
+            [ZERO, most, ONE],
+            LESS,
+            [most, ZERO, ZERO, ONE],
+            "root at 0: 170141183460469231731687303715884105727 * 170141183460469231731687303715884105727",
+        ),
+        // x at M + 2*sqrt(a): A*B comes first for `=`, and A*A for `<`
+        (
+            [ZERO, ONE, ZERO],
+            EQUAL,
+            [most, two, A, ONE],
+            "sign at 0: 170141183460469231731687303715884105727 * 2",
+        ),
+        (
+            [ZERO, ONE, ZERO],
+            LESS,
+            [most, two, A, ONE],
+            "sign at 0: 170141183460469231731687303715884105727 * 170141183460469231731687303715884105727",
+        ),
+        // without a limit
+        ([ZERO, ONE, ZERO], LESS, [A, ZERO, ZERO, ONE], "a < 0"),
+    ] {
+        let point = Point::Root(root(alloc, parts)?);
+        let text = atom_text(alloc, quadratic(alloc, coefficients)?, bits, &point, None)?;
+        assert_eq!(rt; text.as_str(), want);
+    }
+    Ok(())
+}
+
+// M*a*x^2 + x + 1 just above its own root: no operation but that of the slope.
+#[test]
+fn tells_the_limit_of_a_slope(rt: HostRuntime) -> Result<(), Fail> {
+    let alloc = rt.alloc();
+    let own = quadratic(alloc, [[MOST, 0, 0, 0], ONE, ONE])?;
+    let above = Point::RootPlus(root(alloc, [[0, 0, 0, -1], ZERO, ZERO, ONE])?);
+    let text = atom_text(alloc, own.copy(alloc)?, LESS, &above, Some(&own))?;
+    assert_eq!(rt;
+        text.as_str(),
+        "slope at 0: 170141183460469231731687303715884105727 * 2"
+    );
+    Ok(())
+}
+
+/// The `And` of two formulas with a constant between them.
+fn three(alloc: Global, first: Form, second: Form) -> Result<Form, OutOfMemory>
+    requires first_plain { IsPlainAndProper (tree first) }
+    requires second_plain { IsPlainAndProper (tree second) }
+    ensures plain { IfOk result (λ f. IsPlainAndProper (tree f)) }
+    ensures degree { IfOk result (λ f. degree 3 (tree f) ≡ max (degree 3 (tree first)) (degree 3 (tree second))) }
+{
+    let mut parts = Sequence::new(alloc);
+    parts.push(first)?;
+    parts.push(Form::True)?;
+    parts.push(second)?;
+    Ok(Form::And(parts))
+}
+
+/// What stands for two atoms with a constant between them, as text.
+fn atoms_text(alloc: Global, atoms: (Atom, Atom), point: &Point) -> Result<String, OutOfMemory> {
+    let (first, second) = atoms;
+    let first_bits = first.signs.bits();
+    let second_bits = second.signs.bits();
+    let is_first_low = first.poly.degree_in(X) <= 2;
+    let is_second_low = second.poly.degree_in(X) <= 2;
+    if is_first_low
+        && is_second_low
+        && 0 < first_bits
+        && first_bits < 7
+        && 0 < second_bits
+        && second_bits < 7
+    {
+        let form = three(alloc, Form::Atom(first), Form::Atom(second))?;
+        outcome_text(alloc, substitute(alloc, &form, X, point, None))
+    } else {
+        Ok(String::new(alloc))
+    }
+}
+
+// Only atoms are numbered, and the first with a limit is told.
+#[test]
+fn numbers_the_atoms(rt: HostRuntime) -> Result<(), Fail> {
+    let alloc = rt.alloc();
+    let point = Point::Root(root(alloc, [[0, 0, 0, MOST], ZERO, ZERO, ONE])?);
+    let first = Atom {
+        poly: quadratic(alloc, [ZERO, ZERO, B])?,
+        signs: signs_of(LESS),
+    };
+    let second = Atom {
+        poly: quadratic(alloc, [ZERO, [0, 0, 0, 2], ZERO])?,
+        signs: signs_of(EQUAL),
+    };
+    let text = atoms_text(alloc, (first, second), &point)?;
+    assert_eq!(rt;
+        text.as_str(),
+        "root at 1: 2 * 170141183460469231731687303715884105727"
+    );
+    Ok(())
+}
+
+/// A little more than twice as many constants.
+fn grown(alloc: Global, form: Form) -> Result<Form, OutOfMemory>
+    requires plain { IsPlainAndProper (tree form) }
+    requires degree { degree 3 (tree form) ≤ 2 }
+    ensures plain { IfOk result (λ f. IsPlainAndProper (tree f)) }
+    ensures degree { IfOk result (λ f. degree 3 (tree f) ≤ 2) }
+{
+    let copy = form.copy(alloc)?;
+    three(alloc, form, copy)
+}
+
+/// The same four times.
+fn grown_often(alloc: Global, form: Form) -> Result<Form, OutOfMemory>
+    requires plain { IsPlainAndProper (tree form) }
+    requires degree { degree 3 (tree form) ≤ 2 }
+    ensures plain { IfOk result (λ f. IsPlainAndProper (tree f)) }
+    ensures degree { IfOk result (λ f. degree 3 (tree f) ≤ 2) }
+{
+    let once = grown(alloc, form)?;
+    let twice = grown(alloc, once)?;
+    let thrice = grown(alloc, twice)?;
+    grown(alloc, thrice)
+}
+
+// From 1 constant to 2^17 - 1, and to 2^13 - 1.
+#[test]
+fn refuses_what_is_too_large(rt: HostRuntime) -> Result<(), Fail> {
+    let alloc = rt.alloc();
+    let small = grown_often(alloc, grown_often(alloc, grown_often(alloc, Form::True)?)?)?;
+    let made = substitute(alloc, &small, X, &Point::MinusInf, None);
+    assert_eq!(rt; made.map_or(0, |form| form.atom_count()), 8191);
+    let large = grown_often(alloc, small)?;
+    let stop = substitute(alloc, &large, X, &Point::MinusInf, None).err();
+    assert_eq!(rt; stop, Some(SubstStop::TooLarge));
+    Ok(())
+}
