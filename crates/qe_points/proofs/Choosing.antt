@@ -1,5 +1,5 @@
 -- The choice of the variable with the least degree, along the list.
-use Rattle.std.proofs.Common.{ℕ, zero, suc, ◌≡◌, ◌≢◌, ◌∙◌, ◌<◌, ◌≤◌, ◌+◌, inl, inr, refl, sym, ap, subst, Bool, true, false, T, cond, eqb, List, [], ◌∷◌, Option, Some, None, IfSome, IfNone, length, get_or, drop, drop-cons, add-one, arith}
+use Rattle.std.proofs.Common.{ℕ, zero, suc, ◌≡◌, ◌∙◌, ◌<◌, ◌≤◌, ◌+◌, inl, inr, refl, sym, ap, subst, Bool, true, false, cond, eqb, List, [], ◌∷◌, Option, Some, None, IfSome, IfNone, length, get_or, drop, drop-cons, add-one, arith}
 use Rattle.std.proofs.lemmas.List.{drop_all}
 use Rattle.std.proofs.lemmas.Bool.{eqb-true}
 use Rattle.std.proofs.lemmas.Bool.Decides.{nat_tests}

@@ -1,15 +1,13 @@
 -- The polynomials of the atoms, each once, as they are gathered one after another.
-use Rattle.std.proofs.Common.{ℕ, suc, ◌+◌, ◌≡◌, ◌∙◌, ◌<◌, ◌≤◌, sym, ap, refl, Bool, true, false, not, cond, List, [], ◌∷◌, ◌++◌, map, length, get_or, drop, append_assoc, arith}
-use Rattle.std.specs.Prelude.{◌&&◌, ◌||◌, nat_lt, Option, Some, None, is_some, if◌then◌else◌}
-use Rattle.std.specs.List.{filter, list_any, flat_map}
+use Rattle.std.proofs.Common.{◌≡◌, ◌∙◌, sym, ap, refl, Bool, true, false, not, cond, List, [], ◌∷◌, ◌++◌, append_assoc}
+use Rattle.std.specs.Prelude.{◌&&◌, ◌||◌, Option, Some, None, is_some}
+use Rattle.std.specs.List.{filter, list_any}
 use Rattle.std.specs.Map.{lookup}
 use Rattle.std.proofs.lemmas.List.{append-nil}
 use Rattle.std.proofs.lemmas.List.Folds.{list_any-append}
 use Rattle.qe_poly.specs.Polynomial.{Polynomial}
-use Rattle.qe_poly.specs.Coefficients.{degree_in}
 use Rattle.qe_poly.specs.Equal.{poly_eq, poly_tells, poly_eq_equiv}
-use Rattle.qe_form.specs.declared.form.Atom as atom
-use Rattle.qe_points.specs.Candidates.{Numbered, gives, numbered, distinct, with_one}
+use Rattle.qe_points.specs.Candidates.{Numbered, distinct, with_one}
 
 -- ---- filters
 

@@ -7,7 +7,6 @@ use Rattle.qe_poly.specs.Equal.{poly_eq}
 use Rattle.qe_form.specs.declared.form.Atom as atom
 use Rattle.qe_form.specs.Formula.{Formula}
 use Rattle.qe_root.specs.Atoms.{atoms}
-use Rattle.qe_points.specs.declared.candidate.Which.{Which}
 use Rattle.qe_points.specs.declared.candidate.Which.TheVariants.{Linear, Upper, Lower}
 use Rattle.qe_points.specs.declared.candidate.Candidate.{Candidate}
 use Rattle.qe_points.specs.declared.candidate.Candidate.TheVariants.{Root, MinusInf}
@@ -31,10 +30,6 @@ abbrev pub distinct : List Numbered → List Numbered
 distinct [] = []
 distinct (g ∷ gs) = g ∷ filter (λ h. not (poly_eq g.0 h.0)) (distinct gs)
 
--- one more at the end, unless its polynomial is there
-abbrev pub with_one : List Numbered → Numbered → List Numbered
-with_one gs g = cond (list_any (λ h. poly_eq g.0 h.0) gs) gs (gs ++ g ∷ [])
-
 -- the candidates at the roots of a polynomial of degree one or two, or just above them
 abbrev pub roots_of : ℕ → (plus : Bool) → Numbered → List Candidate
 roots_of x plus g =
@@ -49,3 +44,9 @@ roots x plus gs = flat_map (roots_of x plus) gs
 abbrev pub candidates : ℕ → Formula → List Candidate
 candidates x f =
     roots x false (distinct (numbered x true 0 (atoms f))) ++ (roots x true (distinct (numbered x false 0 (atoms f))) ++ MinusInf ∷ [])
+
+-- ---- what the code keeps
+
+-- one more at the end, unless its polynomial is there
+abbrev pub with_one : List Numbered → Numbered → List Numbered
+with_one gs g = cond (list_any (λ h. poly_eq g.0 h.0) gs) gs (gs ++ g ∷ [])

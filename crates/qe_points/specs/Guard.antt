@@ -1,5 +1,5 @@
 -- The guard and the point of a candidate, by the coefficients of its polynomial a*x^2 + b*x + c.
-use Rattle.std.specs.Prelude.{ℕ, pos, Bool, false, nat_lt, eqb, cond, [], ◌∷◌, Option, Some, None}
+use Rattle.std.specs.Prelude.{ℕ, pos, negsuc, Bool, false, eqb, cond, [], ◌∷◌, Option, None}
 use Rattle.std.specs.Int.RustNames.{int_lt}
 use Rattle.qe_coef.specs.declared.Op.TheVariants.{Sub}
 use Rattle.qe_poly.specs.declared.limit.PolyLimit.{PolyLimit}
@@ -27,11 +27,12 @@ atomic p signs = Atom (record { poly = p; signs = signs })
 abbrev pub both : Formula → Formula → Formula
 both f g = And (more f (more g no_more))
 
--- d = b^2 - 4*(a*c)
+-- d = b^2 - 4*(a*c), by the coefficients and by the polynomial
+abbrev pub discriminant_by : (a b c : Polynomial) → Polynomial
+discriminant_by a b c = difference (product b b) (scaled (pos 4) (product a c))
+
 abbrev pub discriminant : ℕ → Polynomial → Polynomial
-discriminant x f =
-    let b = coefficient_in x 1 f in
-    difference (product b b) (scaled (pos 4) (product (coefficient_in x 2 f) (coefficient_in x 0 f)))
+discriminant x f = discriminant_by (coefficient_in x 2 f) (coefficient_in x 1 f) (coefficient_in x 0 f)
 
 -- b <> 0, and for degree two a = 0 besides
 abbrev pub linear_guard : ℕ → Polynomial → Formula
@@ -64,21 +65,19 @@ is_negative p = false
 abbrev pub turned : RootPoint → RootPoint
 turned k = cond (is_negative k.s) (record { p = negative k.p; q = negative k.q; r = k.r; s = negative k.s }) k
 
--- the root of this kind: -c/b, (-b + sqrt(d))/(2*a) and (-b - sqrt(d))/(2*a)
+-- -c/b
+abbrev pub linear_root : ℕ → Polynomial → RootPoint
+linear_root x f = record { p = negative (coefficient_in x 0 f); q = []; r = []; s = coefficient_in x 1 f }
+
+-- (-b + q*sqrt(d))/(2*a)
+abbrev pub square_root : ℕ → Polynomial → Polynomial → RootPoint
+square_root x f q = record { p = negative (coefficient_in x 1 f); q = q; r = discriminant x f; s = scaled (pos 2) (coefficient_in x 2 f) }
+
+-- the root of this kind: with the square root added, or taken away
 abbrev pub root : ℕ → Polynomial → Which → RootPoint
-root x f Linear = record { p = negative (coefficient_in x 0 f); q = []; r = []; s = coefficient_in x 1 f }
-root x f Upper = record {
-  p = negative (coefficient_in x 1 f);
-  q = constant (pos 1);
-  r = discriminant x f;
-  s = scaled (pos 2) (coefficient_in x 2 f);
-}
-root x f Lower = record {
-  p = negative (coefficient_in x 1 f);
-  q = negative (constant (pos 1));
-  r = discriminant x f;
-  s = scaled (pos 2) (coefficient_in x 2 f);
-}
+root x f Linear = linear_root x f
+root x f Upper = square_root x f (constant (pos 1))
+root x f Lower = square_root x f (constant (negsuc 0))
 
 -- the root itself, or just above it
 abbrev pub at_root : Bool → RootPoint → Point
@@ -90,14 +89,14 @@ point_of x MinusInf = point.MinusInf
 
 -- ---- the first limit, in the order b*b, a*c, 4*(a*c), d, 2*a
 
-abbrev pub square_limit : ℕ → Polynomial → Option PolyLimit
-square_limit x f =
-    let a = coefficient_in x 2 f in
-    let b = coefficient_in x 1 f in
-    let c = coefficient_in x 0 f in
+abbrev pub square_limit_by : (a b c : Polynomial) → Option PolyLimit
+square_limit_by a b c =
     first (
-        product_limit b b ∷ product_limit a c ∷ scale_limit (pos 4) (product a c)
-        ∷ sum_limit Sub (product b b) (scaled (pos 4) (product a c)) ∷ scale_limit (pos 2) a ∷ [])
+    product_limit b b ∷ product_limit a c ∷ scale_limit (pos 4) (product a c) ∷ sum_limit Sub (product b b) (scaled (pos 4) (product a c))
+    ∷ scale_limit (pos 2) a ∷ [])
+
+abbrev pub square_limit : ℕ → Polynomial → Option PolyLimit
+square_limit x f = square_limit_by (coefficient_in x 2 f) (coefficient_in x 1 f) (coefficient_in x 0 f)
 
 -- of degree one nothing is multiplied
 abbrev pub root_limit : ℕ → Polynomial → Which → Option PolyLimit

@@ -1,10 +1,12 @@
 -- What `guarded` answers, and what it tells of the guard and the point.
-use Rattle.std.specs.Prelude.{ℕ, ◌≡◌, ◌≢◌, ◌≤◌, ◌<◌, ◌⊎◌, true, Option, Some, None, Result, Ok, Err}
+use Rattle.std.specs.Prelude.{ℕ, ◌≡◌, ◌≢◌, ◌≤◌, ◌<◌, ◌⊎◌, Bool, true, false, Option, Some, None, Result, Ok, Err}
 use Rattle.qe_tower.specs.Point as assignment
 use Rattle.qe_tower.proofs.ValidNumbers.{ValidNumber}
 use Rattle.qe_line.specs.Place.{Place}
 use Rattle.qe_poly.specs.Polynomial.{Polynomial}
 use Rattle.qe_poly.specs.Coefficients.{degree_in}
+use Rattle.qe_poly.specs.declared.limit.PolyStop.{PolyStop}
+use Rattle.qe_poly.specs.declared.limit.PolyStop.TheVariants as met
 use Rattle.qe_form.specs.Formula.{Formula, False}
 use Rattle.qe_form.specs.Plain.{IsPlainAndProper}
 use Rattle.qe_form.specs.Same.{OccursInSome, IsFree}
@@ -23,6 +25,7 @@ use Rattle.qe_points.specs.declared.candidate.Which.TheVariants.{Linear, Upper, 
 use Rattle.qe_points.specs.declared.candidate.Candidate.{Candidate}
 use Rattle.qe_points.specs.declared.candidate.Candidate.TheVariants.{Root, MinusInf}
 use Rattle.qe_points.specs.declared.guard.GuardedPoint.{GuardedPoint}
+use Rattle.qe_points.specs.declared.guard.RootWithGuard.{RootWithGuard}
 use Rattle.qe_points.specs.Guard.{guard, point_of, limit}
 
 -- ---- candidates with a guard
@@ -50,9 +53,12 @@ pub record IsOf (x : ℕ) (f : Formula) (c : Candidate) : Type 0 where
 -- ---- the answer
 
 -- none where the simplified guard is False, and else that guard with the point
+abbrev pub IsGuardedBy : Formula → Point → Option GuardedPoint → Type 0
+IsGuardedBy guard p None = simplified guard ≡ False
+IsGuardedBy guard p (Some g) = (simplified guard ≢ False) × ((tree g.guard ≡ simplified guard) × (g.point ≡ p))
+
 abbrev pub IsGuarded : ℕ → Candidate → Option GuardedPoint → Type 0
-IsGuarded x c None = simplified (guard x c) ≡ False
-IsGuarded x c (Some g) = (simplified (guard x c) ≢ False) × ((tree g.guard ≡ simplified (guard x c)) × (g.point ≡ point_of x c))
+IsGuarded x c found = IsGuardedBy (guard x c) (point_of x c) found
 
 -- it is the candidate's atom
 abbrev pub IsItsAtom : Candidate → ℕ → Type 0
@@ -97,3 +103,18 @@ pub record IsSound (x : ℕ) (c : Candidate) (g : Formula) (p : Point) : Type 0 
   pub there : (at : assignment.Point) → assignment.IsPoint at → Is g true at → IsThere x c p at
   pub guard-free : (y : ℕ) → IsFree y g → (y ≢ x) × OccursInOwn y c
   pub point-free : (y : ℕ) → OccursInPoint y p → (y ≢ x) × OccursInOwn y c
+
+-- ---- what the code keeps
+
+-- a guard with a root
+abbrev pub IsMade : Formula → RootPoint → RootWithGuard → Type 0
+IsMade guard k g = (tree g.guard ≡ guard) × (g.root ≡ k)
+
+abbrev pub is_false : Formula → Bool
+is_false False = true
+is_false f = false
+
+-- the refusal for an atom: a limit in its guard
+abbrev pub stop_at : ℕ → PolyStop → SubstStop
+stop_at atom (met.Limit limit) = stop.At atom stage.Guard limit
+stop_at atom met.OutOfMemory = stop.OutOfMemory

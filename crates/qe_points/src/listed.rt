@@ -94,13 +94,33 @@ fn add_roots(
 {
     let degree = poly.degree_in(x);
     if degree == 1 {
-        candidates.push(Candidate::Root { poly, atom, which: Which::Linear, plus })?;
+        candidates.push(Candidate::Root {
+            poly,
+            atom,
+            which: Which::Linear,
+            plus,
+        })?;
     } else if degree == 2 {
         let linear = poly.copy(alloc)?;
-        candidates.push(Candidate::Root { poly: linear, atom, which: Which::Linear, plus })?;
+        candidates.push(Candidate::Root {
+            poly: linear,
+            atom,
+            which: Which::Linear,
+            plus,
+        })?;
         let upper = poly.copy(alloc)?;
-        candidates.push(Candidate::Root { poly: upper, atom, which: Which::Upper, plus })?;
-        candidates.push(Candidate::Root { poly, atom, which: Which::Lower, plus })?;
+        candidates.push(Candidate::Root {
+            poly: upper,
+            atom,
+            which: Which::Upper,
+            plus,
+        })?;
+        candidates.push(Candidate::Root {
+            poly,
+            atom,
+            which: Which::Lower,
+            plus,
+        })?;
     }
     Ok(())
 }

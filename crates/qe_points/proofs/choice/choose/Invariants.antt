@@ -7,5 +7,5 @@ use Rattle.qe_points.proofs.choice.choose.Given as goal
 abbrev pub invariant-loop-var : goal.invariant-loop-var
 invariant-loop-var l = record {
   going : going (tree l.form) l.least l.chosen (drop l.var-index l.vars) ≡ choice (tree l.form) l.vars;
-  small : l.least ≤ 3
+  small : l.least ≤ 3;
 }

@@ -1,4 +1,4 @@
-use Rattle.std.proofs.Common.{◌≡◌, ◌∙◌, sym, ap, not, true, false, map, Bor, arith}
+use Rattle.std.proofs.Common.{◌∙◌, sym, ap, not, true, false, Bor, arith}
 use Rattle.qe_form.specs.declared.form.Atom as atom
 use Rattle.qe_poly.specs.Polynomial.{IsPolynomial}
 use Rattle.qe_points.proofs.Gathering.{turn_first, turn_given, turn_other, turn_free, turn_end, each_more}
@@ -15,7 +15,7 @@ loop-number-init c = record {
 pub loop-number-preserved : goal.loop-number-preserved
 loop-number-preserved c =
     let canonical = each_more (λ (a : Bor atom.Atom). IsPolynomial a.now.poly) c.args.atoms.now c.loop-number.number c.index-atoms-number.result c.loop-number-test.true c.index-atoms-number.is
-        c.degree_in.ensures.canonical c.loop-number.invariant.canonical in
+    c.degree_in.ensures.canonical c.loop-number.invariant.canonical in
     elim c.if-degree_in-gt0.branch [
       | then-degree_in-gt0+then-has_zero+in_ok-note w ↦ record {
         zero = turn_given (λ a. a.now) c.args.x.0 true _ c.args.atoms.now c.loop-number.number c.index-atoms-number.result c.loop-number-test.true c.index-atoms-number.is _ _
