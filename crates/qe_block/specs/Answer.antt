@@ -5,10 +5,9 @@ use Rattle.qe_form.specs.Tree.{tree}
 use Rattle.qe_norm.specs.declared.prenex.Kind as norm
 use Rattle.qe_norm.specs.declared.prenex.Kind.TheVariants as kind
 use Rattle.qe_norm.specs.declared.prenex.Block as normal_form
-use Rattle.qe_tree.specs.Tree.{Step}
 use Rattle.qe_tree.specs.Block.{Quantifier, exists, for_all, Block, given, stopped, eliminated, EachBlock, AtBlock, Fits, IsWithin, IsBeyond}
 use Rattle.qe_node.specs.Successors.{expansion}
-use Rattle.qe_block.specs.declared.eliminate.Step as code
+use Rattle.qe_block.specs.Search.{steps_of}
 use Rattle.qe_block.specs.declared.eliminate.Outcome.{Outcome}
 use Rattle.qe_block.specs.declared.eliminate.ElimStop.{ElimStop}
 use Rattle.qe_block.specs.declared.eliminate.ElimStop.TheVariants as stop
@@ -22,9 +21,6 @@ block_of b = record { kind = quantifier_of b.kind; vars = map (λ x. x.0) b.vars
 
 abbrev pub blocks_of : List normal_form.Block → List Block
 blocks_of bs = map block_of bs
-
-abbrev pub steps_of : List code.Step → List Step
-steps_of path = map (λ s. record { var = s.var.0; point = s.point }) path
 
 -- A form is what elimination gives, and each block's tree has a true leaf or at most the limit's number of distinct nodes. A failing
 -- node is the first of its block, the innermost that stops, whose tree has at most that number. The limit is met only where a

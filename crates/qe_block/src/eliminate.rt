@@ -10,17 +10,11 @@ ghost use Rattle.qe_tree.specs.Block.{EachBlock, IsWithin};
 ghost use Rattle.qe_node.specs.Successors.{expansion};
 ghost use Rattle.qe_block.specs.Answer.{blocks_of, IsAnswer, IsNoLimit};
 
-use qe_form::{Form, Var};
+use crate::step::Step;
+use qe_form::Form;
 use qe_node::NodeStop;
 use qe_norm::Prenex;
-use std::alloc::{AllocError, AllocFailed, Global};
-
-/// A step of a path from the root of a tree: the variable that is eliminated, and the number of its test point, counted from 0.
-#[derive(Clone, Copy, Debug, PartialEq, Eq)]
-pub struct Step {
-    pub var: Var,
-    pub point: u64,
-}
+use std::alloc::{AllocError, Global};
 
 /// What elimination gives: a formula without quantifiers.
 #[derive(Drop)]

@@ -3,8 +3,11 @@
 #![tactic(auto)]
 
 mod eliminate;
+mod search;
+mod step;
 
-pub use eliminate::{ElimStop, Outcome, Step, eliminate_alone};
+pub use eliminate::{ElimStop, Outcome, eliminate_alone};
 pub use qe_form::Var;
 pub use qe_node::NodeStop;
+pub use step::Step;
 pub use std::alloc::AllocError as OutOfMemory;

@@ -1,5 +1,5 @@
 -- The polynomials of a candidate's guard and point, and of the formula at the point, are canonical where those of the formula are.
-use Rattle.std.proofs.Common.{ℕ, zero, suc, pos, subst, Bool, true, false, cond, eqb, [], ◌∷◌, Option, Some, None}
+use Rattle.std.proofs.Common.{ℕ, zero, suc, pos, negsuc, subst, Bool, true, false, cond, eqb, [], ◌∷◌, Option, Some, None}
 use Rattle.qe_coef.specs.declared.Op.TheVariants.{Add}
 use Rattle.qe_poly.specs.Polynomial.{Polynomial, IsPolynomial, constant, negative, difference, sum, product}
 use Rattle.qe_poly.specs.Coefficients.{degree_in, coefficient_in, derivative}
@@ -139,9 +139,11 @@ module _ (x : ℕ) where
   everywhere_fine f signs h =
       fine_if signs.zero (And (spec.each_coefficient x (degree_in x f) f signs)) (Or (spec.each_coefficient x (degree_in x f) f signs)) (each_coefficient_fine (degree_in x f) f signs h) (each_coefficient_fine (degree_in x f) f signs h)
 
-  below_fine : (f : Polynomial) (signs : Signs) → IsPolynomial f → IsFine (spec.below x f signs)
+  below_fine : (f : Polynomial) (signs : Signs) → IsPolynomial f → IsFine (cond (eqb (degree_in x f) 1) (spec.line_below x f signs) (spec.square_below x f signs))
   below_fine f signs h =
-      let (c0, c1, c2) = (coefficient 0 f h, coefficient 1 f h, coefficient 2 f h) in
+      let c0 = coefficient 0 f h in
+      let c1 = coefficient 1 f h in
+      let c2 = coefficient 2 f h in
       fine_if (eqb (degree_in x f) 1) (spec.line_below x f signs) (spec.square_below x f signs)
       (c1, ((c1, (c0, tt)), tt))
       (c2, ((c2, (c1, tt)), ((c2, (c1, (c0, tt))), tt)))
@@ -150,7 +152,7 @@ module _ (x : ℕ) where
   at_point_fine (Root k) own root f signs h = at_root_fine own k root f signs h
   at_point_fine (RootPlus k) own root f signs h =
       fine_if (spec.is_even signs) (spec.everywhere x f signs) (spec.near x own k (degree_in x f) f signs) (everywhere_fine f signs h) (near_fine own k root (degree_in x f) f signs h)
-  at_point_fine MinusInf own root f signs h = fine_if (spec.is_even signs) (spec.everywhere x f signs) (spec.below x f signs) (everywhere_fine f signs h) (below_fine f signs h)
+  at_point_fine MinusInf own root f signs h = fine_if (spec.is_even signs) (spec.everywhere x f signs) (cond (eqb (degree_in x f) 1) (spec.line_below x f signs) (spec.square_below x f signs)) (everywhere_fine f signs h) (below_fine f signs h)
 
   module _ (point : Point) (own : Option Polynomial) (test : IsTestPoint point) where
     for_atom_fine : (a : atom.Atom) → IsPolynomial a.poly → IsFine (spec.for_atom x point own a)
@@ -197,7 +199,7 @@ module _ (x : ℕ) (f : Polynomial) (h : IsPolynomial f) where
   }
   root_fine Lower = record {
     p = IsPolynomial-negative (coefficient_in x 1 f) (coefficient x 1 f h);
-    q = IsPolynomial-negative (constant (pos 1)) (IsPolynomial-constant (pos 1));
+    q = IsPolynomial-constant (negsuc 0);
     r = discriminant_fine;
     s = IsPolynomial-scaled (pos 2) (coefficient_in x 2 f) (coefficient x 2 f h);
   }

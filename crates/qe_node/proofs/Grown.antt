@@ -72,13 +72,14 @@ module _ (x : ℕ) (f : Formula) (p : Point) (valid : IsPoint p) where
   parts_hold c u = (
     λ h.
         let there = u.guarded.there p valid h.0 in
-        let (place, stands) = there.place in
-        ((u.simple p valid true).1 h.0, (place, stands, (u.stands p valid place stands (there.zero place stands) true).0 h.1)),
+        let place = there.place.0 in
+        let stands = there.place.1 in
+        ((u.simple p valid true).1 h.0, (place, (stands, (u.stands p valid place stands (there.zero place stands) true).0 h.1))),
     λ h.
-        let (guarded, at) = h in
-        let (place, stands, holds) = at in
-        let simple = (u.simple p valid true).0 guarded in
-        (simple, (u.stands p valid place stands ((u.guarded.there p valid simple).zero place stands) true).1 holds),
+        let place = h.1.0 in
+        let stands = h.1.1.0 in
+        let simple = (u.simple p valid true).0 h.0 in
+        (simple, (u.stands p valid place stands ((u.guarded.there p valid simple).zero place stands) true).1 h.1.1.1),
   )
 
   successor_holds : (c : Candidate) → IsUsable x f c → Is (successor x f c) true p ↔ HoldsAtCandidate x c f p
@@ -130,13 +131,13 @@ module _ (x : ℕ) (f : Formula) (p : Point) (valid : IsPoint p) where
   told_before n g c cs here (Err s) told parts is = absurd (cc)
 
   told_next : (n : ℕ) (t : Tried) (c : Candidate) (cs : List Candidate) → Tells t c → (others : Result (List (ℕ × Formula)) NodeStop) → IsTold others cs → IsTold (and_then n t others) (c ∷ cs)
-  told_next n (fails s) c cs here others told parts is = absurd (cc)
-  told_next n skipped c cs here others told parts is =
+  told_next n (fails s) c cs here others told = λ parts is. absurd (cc)
+  told_next n skipped c cs here others told = λ parts is.
       let later = told parts is in ((λ h. inr (later.0 h)), (λ h. elim h [ inl t ↦ absurd (here t) | inr t ↦ later.1 t ]))
   told_next n (gives g) c cs here others told = by_test (is_true g) refl
     where
       by_test : (b : Bool) → is_true g ≡ b → IsTold (cond b (Ok ((n, g) ∷ [])) (before (n, g) others)) (c ∷ cs)
-      by_test true test parts is =
+      by_test true test = λ parts is.
           let e : parts ≡ (n, g) ∷ [] = cc in
           let always : Is g true p = subst (λ h. Is h true p) (sym (true_is g test)) refl in
           subst (λ ps. OneIs ps ↔ HoldsAtOne x (c ∷ cs) f p) (sym e)
@@ -145,7 +146,7 @@ module _ (x : ℕ) (f : Formula) (p : Point) (valid : IsPoint p) where
 
   -- some successor is true exactly where the formula holds at one of the candidates
   pub told : (n : ℕ) (cs : List Candidate) → Each (IsUsable x f) cs → IsTold (given_by x f n cs) cs
-  told n [] usable parts is = let e : parts ≡ [] = cc in subst (λ ps. OneIs ps ↔ ⊥) (sym e) ((λ h. h), (λ h. h))
+  told n [] usable = λ parts is. let e : parts ≡ [] = cc in subst (λ ps. OneIs ps ↔ ⊥) (sym e) ((λ h. h), (λ h. h))
   told n (c ∷ cs) usable = told_next n (tried x f n c) c cs (tells n c usable.0) (given_by x f (suc n) cs) (told (suc n) cs usable.1)
 
 -- ---- what holds of each successor
@@ -160,17 +161,17 @@ module _ (P : Formula → Type 0) where
   HoldOfEach r = (parts : List (ℕ × Formula)) → r ≡ Ok parts → Each P (forms_of parts)
 
   each_before : (n : ℕ) (g : Formula) → P g → (others : Result (List (ℕ × Formula)) NodeStop) → HoldOfEach others → HoldOfEach (before (n, g) others)
-  each_before n g here (Ok rest) told parts is = let e : parts ≡ (n, g) ∷ rest = cc in subst (λ ps. Each P (forms_of ps)) (sym e) (here, told rest refl)
-  each_before n g here (Err s) told parts is = absurd (cc)
+  each_before n g here (Ok rest) later parts is = let e : parts ≡ (n, g) ∷ rest = cc in subst (λ ps. Each P (forms_of ps)) (sym e) (here, later rest refl)
+  each_before n g here (Err s) later parts is = absurd (cc)
 
   each_next : (n : ℕ) (t : Tried) → IfGives t → (others : Result (List (ℕ × Formula)) NodeStop) → HoldOfEach others → HoldOfEach (and_then n t others)
-  each_next n (fails s) here others told parts is = absurd (cc)
-  each_next n skipped here others told parts is = told parts is
-  each_next n (gives g) here others told = by_test (is_true g)
+  each_next n (fails s) here others later = λ parts is. absurd (cc)
+  each_next n skipped here others later = later
+  each_next n (gives g) here others later = by_test (is_true g)
     where
       by_test : (b : Bool) → HoldOfEach (cond b (Ok ((n, g) ∷ [])) (before (n, g) others))
-      by_test true parts is = let e : parts ≡ (n, g) ∷ [] = cc in subst (λ ps. Each P (forms_of ps)) (sym e) (here, tt)
-      by_test false = each_before n g here others told
+      by_test true = λ parts is. let e : parts ≡ (n, g) ∷ [] = cc in subst (λ ps. Each P (forms_of ps)) (sym e) (here, tt)
+      by_test false = each_before n g here others later
 
   module _ (x : ℕ) (f : Formula) where
     gives_if : (n : ℕ) (c : Candidate) → P (successor x f c) → IfGives (tried x f n c)
@@ -194,5 +195,5 @@ module _ (P : Formula → Type 0) where
 
     -- what holds of the simplified And of guard and form at each candidate holds of each successor
     pub each_given : (n : ℕ) (cs : List Candidate) → Each (λ c. P (successor x f c)) cs → HoldOfEach (given_by x f n cs)
-    each_given n [] here parts is = let e : parts ≡ [] = cc in subst (λ ps. Each P (forms_of ps)) (sym e) tt
+    each_given n [] here = λ parts is. let e : parts ≡ [] = cc in subst (λ ps. Each P (forms_of ps)) (sym e) tt
     each_given n (c ∷ cs) here = each_next n (tried x f n c) (gives_if n c here.0) (given_by x f (suc n) cs) (each_given (suc n) cs here.1)

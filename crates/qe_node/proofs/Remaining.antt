@@ -1,13 +1,18 @@
--- The variables that are left of a list, found one after another.
-use Rattle.std.proofs.Common.{ℕ, zero, suc, ◌+◌, ◌<◌, ◌≤◌, ◌≡◌, ◌↔◌, ◌∙◌, sym, ap, refl, Bool, true, false, cond, List, [], ◌∷◌, ◌++◌, map, length, get_or, drop, append_assoc, append-nil, arith}
-use Rattle.std.specs.Prelude.{IsTrue}
+-- The variables of a list that pass a test, found one after another.
+use Rattle.std.proofs.Common.{◌≢◌, ◌^◌, filter, subst, ℕ, zero, suc, ◌+◌, ◌<◌, ◌≤◌, ◌≡◌, ◌↔◌, ◌∙◌, sym, ap, refl, Bool, true, false, cond, List, [], ◌∷◌, ◌++◌, map, length, get_or, drop, drop-cons, append_assoc, append-nil, arith}
+use Rattle.std.specs.Prelude.{IsTrue, AllPairs, eqb, not, ◌&&◌}
+use lib.Pointwise.{pointwise}
+use Rattle.std.proofs.lemmas.List.Kept.{AllPairs-filter}
 use Rattle.std.proofs.lemmas.List.{drop_all}
 use Rattle.std.proofs.Math.Numerals.{add-one}
 use Rattle.qe_poly.specs.declared.monomial.Var.{Var}
 use Rattle.qe_form.specs.Formula.{Formula}
-use Rattle.qe_form.specs.Measures.{Has}
+use Rattle.qe_form.specs.Measures.{Has, count}
+use Rattle.qe_form.specs.Plain.{IsPlainAndProper}
 use Rattle.qe_tree.specs.Variables.{occurs, remaining}
 use Rattle.qe_tree.proofs.Occurs.{occurs_is_has}
+use Rattle.qe_node.specs.Node.{IsNode}
+use Rattle.qe_node.specs.Answer.{others}
 
 -- the numbers of variables
 abbrev pub numbers : List Var → List ℕ
@@ -23,32 +28,63 @@ same_test false false h k = refl
 pub occurs_is : (b : Bool) (x : ℕ) (f : Formula) → IsTrue b ↔ Has x f → b ≡ occurs x f
 occurs_is b x f h = same_test b (occurs x f) h (occurs_is_has x f)
 
-left_suc : (vs : List Var) (i : ℕ) (v : Var) → i < length vs → v ≡ get_or vs i v → drop i vs ≡ v ∷ drop (suc i) vs
-left_suc [] i v h e = absurd (omega arith)
-left_suc (u ∷ vs) zero v h e = λ j. sym e j ∷ vs
-left_suc (u ∷ vs) (suc i) v h e = left_suc vs i v (omega arith) e
-
 numbers-push : (vs : List Var) (v : Var) → numbers (vs ++ v ∷ []) ≡ numbers vs ++ v.0 ∷ []
 numbers-push [] v = refl
 numbers-push (u ∷ vs) v = ap (λ xs. u.0 ∷ xs) (numbers-push vs v)
 
-module _ (f : Formula) (vs : List Var) (i : ℕ) (v : Var) (within : i < length vs) (is : v ≡ get_or vs i v) (found : List Var) (all : List ℕ) where
-  -- one turn at a variable that occurs
-  pub one_more : (now : List Var) → now ≡ found ++ v ∷ [] → occurs v.0 f ≡ true → numbers found ++ remaining (numbers (drop i vs)) f ≡ all
-      → numbers now ++ remaining (numbers (drop (i + 1) vs)) f ≡ all
-  one_more now pushed yes before =
-      rw add-one (ap (λ us. numbers us ++ rest) pushed ∙ ap (λ xs. xs ++ rest) (numbers-push found v) ∙ append_assoc (numbers found) (v.0 ∷ []) rest
-      ∙ ap (λ xs. numbers found ++ xs) (ap (λ b. cond b (v.0 ∷ rest) rest) (sym yes) ∙ ap (λ us. remaining (numbers us) f) (sym (left_suc vs i v within is))) ∙ before)
-    where
-      rest : List ℕ
-      rest = remaining (numbers (drop (suc i) vs)) f
+module _ (p : ℕ → Bool) (vs : List Var) (i : ℕ) (within : i < length vs) (found : List Var) (all : List ℕ) (before : numbers found ++ filter p (numbers (drop i vs)) ≡ all) where
+  abbrev item : Var
+  item = get_or vs i (record { 0 = 0 })
+
+  abbrev rest : List ℕ
+  rest = filter p (numbers (drop (i + 1) vs))
+
+  left : (b : Bool) → p item.0 ≡ b → filter p (numbers (drop i vs)) ≡ cond b (item.0 ∷ rest) rest
+  left b test =
+      let split : drop i vs ≡ item ∷ drop (i + 1) vs = rw add-one (drop-cons vs i (record { 0 = 0 }) within) in
+      ap (λ us. filter p (numbers us)) split ∙ ap (λ b. cond b (item.0 ∷ rest) rest) test
+
+  -- one turn at a variable that passes the test
+  pub one_more : (b : Bool) (now : List Var) → b ≡ p item.0 → b ≡ true → now ≡ found ++ item ∷ [] → numbers now ++ rest ≡ all
+  one_more b now is passes pushed =
+      ap (λ us. numbers us ++ rest) pushed ∙ ap (λ xs. xs ++ rest) (numbers-push found item) ∙ append_assoc (numbers found) (item.0 ∷ []) rest
+      ∙ ap (λ xs. numbers found ++ xs) (sym (left true (sym is ∙ passes))) ∙ before
 
   -- and at one that does not
-  pub no_more : occurs v.0 f ≡ false → numbers found ++ remaining (numbers (drop i vs)) f ≡ all → numbers found ++ remaining (numbers (drop (i + 1) vs)) f ≡ all
-  no_more no before =
-      rw add-one (ap (λ xs. numbers found ++ xs) (ap (λ b. cond b (v.0 ∷ remaining (numbers (drop (suc i) vs)) f) (remaining (numbers (drop (suc i) vs)) f)) (sym no) ∙ ap (λ us. remaining (numbers us) f) (sym (left_suc vs i v within is))) ∙ before)
+  pub none_more : (b : Bool) (now : List Var) → b ≡ p item.0 → b ≡ false → now ≡ found → numbers now ++ rest ≡ all
+  none_more b now is fails same =
+      ap (λ us. numbers us ++ rest) same ∙ ap (λ xs. numbers found ++ xs) (sym (left false (sym is ∙ fails))) ∙ before
 
 -- the end of the loop
-pub all_found : (f : Formula) (vs : List Var) (i : ℕ) (found : List Var) (all : List ℕ) → length vs ≤ i → numbers found ++ remaining (numbers (drop i vs)) f ≡ all → numbers found ≡ all
-all_found f vs i found all past before =
-    sym (append-nil (numbers found)) ∙ ap (λ us. numbers found ++ remaining (numbers us) f) (sym (drop_all i vs past)) ∙ before
+pub all_found : (p : ℕ → Bool) (vs : List Var) (i : ℕ) (found : List Var) (all : List ℕ) → length vs ≤ i → numbers found ++ filter p (numbers (drop i vs)) ≡ all → numbers found ≡ all
+all_found p vs i found all past before =
+    sym (append-nil (numbers found)) ∙ ap (λ us. numbers found ++ filter p (numbers us)) (sym (drop_all i vs past)) ∙ before
+
+-- ---- variables and their numbers
+
+pub same_numbers : (test : Var → Var → Bool) → ((u v : Var) → test u v ≡ eqb u.0 v.0) → (us vs : List Var) → pointwise test us vs ≡ pointwise eqb (numbers us) (numbers vs)
+same_numbers test same [] [] = refl
+same_numbers test same [] (v ∷ vs) = refl
+same_numbers test same (u ∷ us) [] = refl
+same_numbers test same (u ∷ us) (v ∷ vs) = λ i. same u v i && same_numbers test same us vs i
+
+-- ---- what is left is distinct, and nothing more goes
+
+filter-again : (p : ℕ → Bool) (xs : List ℕ) → filter p (filter p xs) ≡ filter p xs
+filter-again p [] = refl
+filter-again p (x ∷ xs) = by_test (filter-again p xs) (p x) refl
+  where
+    by_test : filter p (filter p xs) ≡ filter p xs → (b : Bool) → p x ≡ b → filter p (cond b (x ∷ filter p xs) (filter p xs)) ≡ cond b (x ∷ filter p xs) (filter p xs)
+    by_test later true test = ap (λ b. cond b (x ∷ filter p (filter p xs)) (filter p (filter p xs))) test ∙ ap (λ ys. x ∷ ys) later
+    by_test later false test = later
+
+-- the node of a formula
+pub node_of : (vars : List ℕ) (f : Formula) (left : List ℕ) (g : Formula) → left ≡ remaining vars f → g ≡ f → AllPairs (λ x y. x ≢ y) vars → IsPlainAndProper f → count f < 2 ^ 50
+    → IsNode (record { vars = left; form = g })
+node_of vars f left g is same distinct proper small =
+    subst (λ xs. IsNode (record { vars = xs; form = g })) (sym is) (subst (λ h. IsNode (record { vars = remaining vars f; form = h })) (sym same)
+    (record { distinct = AllPairs-filter (λ x y. x ≢ y) (λ x. occurs x f) vars distinct; occurring = filter-again (λ x. occurs x f) vars; proper = proper; small = small }))
+
+-- the variables other than one are distinct too
+pub others_distinct : (x : ℕ) (vars left : List ℕ) → left ≡ others x vars → AllPairs (λ x y. x ≢ y) vars → AllPairs (λ x y. x ≢ y) left
+others_distinct x vars left is distinct = subst (λ xs. AllPairs (λ (y : ℕ) z. y ≢ z) xs) (sym is) (AllPairs-filter (λ y z. y ≢ z) (λ y. not (eqb y x)) vars distinct)

@@ -1,33 +1,41 @@
--- What `successors` answers.
-use Rattle.std.specs.Prelude.{ℕ, ◌≡◌, List, map, Result, Ok, Err}
+-- What becomes of a node, with the nodes of its successors; and what `expand` answers.
+use Rattle.std.specs.Prelude.{ℕ, ◌≡◌, Bool, true, not, eqb, List, map, filter, Result, Ok, Err}
 use Rattle.qe_form.specs.Formula.{Formula}
 use Rattle.qe_tree.specs.Variables.{remaining}
 use Rattle.qe_tree.specs.Expanded.{Expanded, successors, failed}
+use Rattle.qe_piece.specs.declared.maker.Next.{Next}
+use Rattle.qe_piece.specs.declared.maker.Made.{Made}
+use Rattle.qe_piece.specs.declared.maker.Made.TheVariants as made
 use Rattle.qe_node.specs.declared.stop.NodeStop.{NodeStop}
-use Rattle.qe_node.specs.declared.growth.Successor.{Successor}
-use Rattle.qe_node.specs.declared.growth.ExpandStop.{ExpandStop}
-use Rattle.qe_node.specs.declared.growth.ExpandStop.TheVariants as stop
 use Rattle.qe_node.specs.Node.{Sight}
+use Rattle.qe_node.specs.Successors.{expansion}
 
--- the successors of a node with these variables, each with its number: in its formula those of the variables are left that occur there
+-- the variables other than x
+abbrev pub others : ℕ → List ℕ → List ℕ
+others x vars = filter (λ y. not (eqb y x)) vars
+
+-- successors with their numbers: in the formula of each those of the variables are left that occur there
 abbrev pub below : List ℕ → List (ℕ × Formula) → List (ℕ × Sight)
 below vars parts = map (λ s. (s.0, record { vars = remaining vars s.1; form = s.1 })) parts
 
-abbrev pub nodes_below : List ℕ → Result (List (ℕ × Formula)) NodeStop → Result (List (ℕ × Sight)) NodeStop
-nodes_below vars (Ok parts) = Ok (below vars parts)
-nodes_below vars (Err s) = Err s
+-- where the variable x is eliminated from a node with these variables
+abbrev pub outcome_of : List ℕ → Expanded NodeStop → Result (List (ℕ × Sight)) NodeStop
+outcome_of vars (successors x parts) = Ok (below (others x vars) parts)
+outcome_of vars (failed s) = Err s
 
--- what becomes of a node, with the nodes of its successors
-abbrev pub outcome : Sight → Expanded NodeStop → Result (List (ℕ × Sight)) NodeStop
-outcome n (successors x parts) = Ok (below n.vars parts)
-outcome n (failed s) = Err s
+-- the successors of a node with their numbers, or why it fails
+abbrev pub outcome : Sight → Result (List (ℕ × Sight)) NodeStop
+outcome n = outcome_of n.vars (expansion n.vars n.form)
+
+-- ---- the answer
 
 -- the numbers and the nodes of successors
-abbrev pub shown : List Successor → List (ℕ × Sight)
-shown made = map (λ s. (s.point, s.node)) made
+abbrev pub shown : List (Next Sight) → List (ℕ × Sight)
+shown list = map (λ s. (s.point, s.piece)) list
 
--- what becomes of the node, as `shown` sees the result; want of memory may come in place of it
-abbrev pub IsAnswer : {A : Type 0} → (A → List (ℕ × Sight)) → Result (List (ℕ × Sight)) NodeStop → Result A ExpandStop → Type 0
-IsAnswer shown want (Ok a) = want ≡ Ok (shown a)
-IsAnswer shown want (Err (stop.Failed s)) = want ≡ Err s
-IsAnswer shown want (Err stop.OutOfMemory) = Unit {0}
+-- it is the outcome; or that the stop was told, or want of memory
+abbrev pub IsAnswer : Result (List (ℕ × Sight)) NodeStop → (told : Bool) → Made Sight NodeStop → Type 0
+IsAnswer want told (made.Successors list) = want ≡ Ok (shown list.items)
+IsAnswer want told (made.Failed s) = want ≡ Err s
+IsAnswer want told made.Stopped = told ≡ true
+IsAnswer want told made.OutOfMemory = Unit {0}

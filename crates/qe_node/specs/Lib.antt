@@ -1,7 +1,10 @@
 pub mod Key
 pub mod KeyLaws
 pub mod Node
-pub mod Successors
-pub mod Answer
-pub mod Trial
 pub mod Equal
+pub mod Successors
+pub mod Trial
+pub mod Answer
+pub mod Piece
+pub mod Growth
+pub mod PieceLaws

@@ -1,57 +1,55 @@
 //! The successors of a node.
 
-ghost use Rattle.std.specs.Prelude.{◌≡◌, ◌≢◌, ◌≤◌, All, AllPairs, map};
+ghost use Rattle.std.specs.Prelude.{◌≡◌, ◌≢◌, ◌≤◌, false, true, not, eqb, All, AllPairs, IfOk, map};
 ghost use Rattle.qe_form.specs.Measures.{degree};
 ghost use Rattle.qe_form.specs.Plain.{IsPlainAndProper};
 ghost use Rattle.qe_form.specs.Tree.{tree};
+ghost use Rattle.qe_points.specs.Candidates as listed;
 ghost use Rattle.qe_points.specs.Guarded.{HasRoot};
-ghost use Rattle.qe_node.specs.Successors.{expansion, given_by, is_true};
-ghost use Rattle.qe_node.specs.Answer.{IsAnswer, outcome, nodes_below, shown};
+ghost use Rattle.qe_node.specs.Successors.{given_by, is_true};
+ghost use Rattle.qe_node.specs.Answer.{IsAnswer, others, outcome};
+ghost use Rattle.qe_node.specs.Growth.{IsGrowth, nodes_below};
 
 use crate::trial::{Trial, try_candidate};
-use crate::{Form, Node, NodeStop, OutOfMemory, Var, root};
+use crate::{Form, Node, NodeStop, OutOfMemory, Sequence, Var, Vars, root};
+use qe_piece::{Made, Never, Next, Stop};
 use qe_points::{Candidate, candidates, choose};
 use std::alloc::{AllocError, AllocFailed, Global};
 
-/// A node below another, with the number of the candidate that gives it, counted from 0.
-#[derive(Drop)]
-pub struct Successor {
-    pub point: u64,
-    pub node: Node,
-}
-
 /// Why there are no successors.
-#[derive(Debug, Drop)]
-pub enum ExpandStop {
+#[derive(Drop)]
+enum GrowthStop {
     /// The node fails.
     Failed(NodeStop),
+    /// The stop was told.
+    Stopped,
     OutOfMemory,
 }
 
-impl From<AllocError> for ExpandStop {
+impl From<AllocError> for GrowthStop {
     ghost use Rattle.std.specs.Prelude.{◌≡◌};
-    ghost use Rattle.qe_node.specs.declared.growth.ExpandStop.{ExpandStop};
+    ghost use Rattle.qe_node.specs.declared.growth.GrowthStop.{GrowthStop};
 
-    ghost from_gives = { λ _ e. e ≡ ExpandStop.OutOfMemory };
+    ghost from_gives = { λ _ e. e ≡ GrowthStop.OutOfMemory };
 
-    fn from(_error: AllocError) -> ExpandStop {
-        ExpandStop::OutOfMemory
+    fn from(_error: AllocError) -> GrowthStop {
+        GrowthStop::OutOfMemory
     }
 }
 
-impl<T: Drop> From<AllocFailed<T>> for ExpandStop {
+impl<T: Drop> From<AllocFailed<T>> for GrowthStop {
     ghost use Rattle.std.specs.Prelude.{◌≡◌};
-    ghost use Rattle.qe_node.specs.declared.growth.ExpandStop.{ExpandStop};
+    ghost use Rattle.qe_node.specs.declared.growth.GrowthStop.{GrowthStop};
 
-    ghost from_gives = { λ _ e. e ≡ ExpandStop.OutOfMemory };
+    ghost from_gives = { λ _ e. e ≡ GrowthStop.OutOfMemory };
 
-    fn from(_error: AllocFailed<T>) -> ExpandStop {
-        ExpandStop::OutOfMemory
+    fn from(_error: AllocFailed<T>) -> GrowthStop {
+        GrowthStop::OutOfMemory
     }
 }
 
 /// Whether the formula is True.
-fn is_true(form: &Form) -> bool
+pub fn is_true(form: &Form) -> bool
     ensures { result ≡ is_true (tree form.now) }
 {
     match form {
@@ -60,31 +58,57 @@ fn is_true(form: &Form) -> bool
     }
 }
 
-/// The successors at the candidates of a variable.
-fn grow(
+/// Whether the variable is another.
+fn is_other(var: Var, x: Var) -> bool
+    ensures { result ≡ not (eqb var.0 x.0) }
+{
+    var.0 != x.0
+}
+
+/// The variables other than this one, in their order.
+fn others(alloc: Global, vars: &[Var], x: Var) -> Result<Vars, OutOfMemory>
+    ensures { IfOk result (λ vs. map (λ v. v.0) vs ≡ others x.0 (map (λ v. v.0) vars.now)) }
+{
+    let mut left = Sequence::new(alloc);
+    for var in vars {
+        if is_other(*var, x) {
+            left.push(*var)?;
+        }
+    }
+    Ok(left)
+}
+
+/// The successors at the candidates of a variable, with those of `vars` that occur in each.
+fn grow<T: Stop>(
     alloc: Global,
     vars: &[Var],
     form: &Form,
     x: Var,
     candidates: &[Candidate],
-) -> Result<Vec<Successor>, ExpandStop>
+    stop: &mut T,
+) -> Result<Vec<Next<Node>>, GrowthStop>
     requires distinct { AllPairs (λ x y. x ≢ y) (map (λ v. v.0) vars.now) }
     requires proper { IsPlainAndProper (tree form.now) }
     requires degree { degree x.0 (tree form.now) ≤ 2 }
     requires roots { All (HasRoot x.0) candidates.now }
-    ensures { IsAnswer (λ v. shown v.items) (nodes_below (map (λ v. v.0) vars.now) (given_by x.0 (tree form.now) 0 candidates.now)) result }
+    ensures answer { IsGrowth (λ v. v.items) (nodes_below (map (λ v. v.0) vars.now) (given_by x.0 (tree form.now) 0 candidates.now)) (T.told stop.new) result }
+    ensures stays { T.told stop.old ≡ true → T.told stop.new ≡ true }
+    ensures basis { T.basis stop.new ≡ T.basis stop.old }
 {
     let mut grown = Vec::new(alloc);
     for (number, candidate) in candidates.iter().enumerate() {
+        if stop.stopped() {
+            return Err(GrowthStop::Stopped);
+        }
         match try_candidate(alloc, form, x, candidate, number as u64)? {
-            Trial::Failed(stop) => return Err(ExpandStop::Failed(stop)),
+            Trial::Failed(fault) => return Err(GrowthStop::Failed(fault)),
             Trial::Skipped => {}
             Trial::Given(form) => {
                 let last = is_true(&form);
-                let node = root(alloc, vars, form)?;
-                grown.push(Successor {
+                let piece = root(alloc, vars, form)?;
+                grown.push(Next {
                     point: number as u64,
-                    node,
+                    piece,
                 })?;
                 if last {
                     return Ok(grown);
@@ -95,20 +119,52 @@ fn grow(
     Ok(grown)
 }
 
+/// The successors where a variable is eliminated.
+fn grow_at<T: Stop>(
+    alloc: Global,
+    vars: &[Var],
+    form: &Form,
+    x: Var,
+    stop: &mut T,
+) -> Result<Vec<Next<Node>>, GrowthStop>
+    requires distinct { AllPairs (λ x y. x ≢ y) (map (λ v. v.0) vars.now) }
+    requires proper { IsPlainAndProper (tree form.now) }
+    requires degree { degree x.0 (tree form.now) ≤ 2 }
+    ensures answer { IsGrowth (λ v. v.items) (nodes_below (others x.0 (map (λ v. v.0) vars.now)) (given_by x.0 (tree form.now) 0 (listed.candidates x.0 (tree form.now)))) (T.told stop.new) result }
+    ensures stays { T.told stop.old ≡ true → T.told stop.new ≡ true }
+    ensures basis { T.basis stop.new ≡ T.basis stop.old }
+{
+    let left = others(alloc, vars, x)?;
+    let points = candidates(alloc, form, x)?;
+    grow(alloc, left.items(), form, x, &points, stop)
+}
+
 /// The successors of a node. Of its variables, in their order, the first of least degree is chosen, where that degree is at most
 /// two; without one the node fails with `DegreeExcess`. The candidates of the variable are tried in turn. A limit in the guard makes
 /// the node fail, and so does a limit or too many atoms in the formula at the candidate's point. A candidate whose guard is False is
 /// skipped. The new formula is the simplified And of the guard and the formula at the point; where it is False the candidate is
 /// skipped too, and else it gives a successor with the candidate's number. The list ends after the first successor that is True.
-pub fn successors(alloc: Global, node: &Node) -> Result<Vec<Successor>, ExpandStop>
-    ensures { IsAnswer (λ v. shown v.items) (outcome node.now (expansion node.now.vars node.now.form)) result }
+/// `Stopped` comes only where the stop is told when the call ends; it is asked before each candidate.
+pub fn expand<T: Stop>(alloc: Global, node: &Node, stop: &mut T) -> Made<Node>
+    ensures answer { IsAnswer (outcome node.now) (T.told stop.new) result }
+    ensures stays { T.told stop.old ≡ true → T.told stop.new ≡ true }
+    ensures basis { T.basis stop.new ≡ T.basis stop.old }
 {
     let vars = node.vars.items();
-    match choose(&node.form, vars) {
-        Some(x) => {
-            let points = candidates(alloc, &node.form, x)?;
-            grow(alloc, vars, &node.form, x, &points)
-        }
-        None => Err(ExpandStop::Failed(NodeStop::DegreeExcess)),
+    let Some(x) = choose(&node.form, vars) else {
+        return Made::Failed(NodeStop::DegreeExcess);
+    };
+    match grow_at(alloc, vars, &node.form, x, stop) {
+        Ok(list) => Made::Successors(list),
+        Err(GrowthStop::Failed(fault)) => Made::Failed(fault),
+        Err(GrowthStop::Stopped) => Made::Stopped,
+        Err(GrowthStop::OutOfMemory) => Made::OutOfMemory,
     }
+}
+
+/// The successors of a node, as `expand` gives them where nobody tells it to stop.
+pub fn successors(alloc: Global, node: &Node) -> Made<Node>
+    ensures { IsAnswer (outcome node.now) false result }
+{
+    expand(alloc, node, &mut Never)
 }

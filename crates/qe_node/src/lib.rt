@@ -3,19 +3,23 @@
 #![tactic(auto)]
 
 mod growth;
+pub mod laws;
 mod node;
+mod piece;
 mod start;
 mod stop;
 mod trial;
 
 pub use node::Node;
+pub use piece::Expander;
 pub use qe_form::{Form, Sequence, Var};
+pub use qe_piece::{Made, Maker, Never, Next, Piece, Stop};
 pub use qe_poly::PolyLimit;
 pub use qe_root::Stage;
 pub use start::root;
 pub use std::alloc::AllocError as OutOfMemory;
 pub use stop::NodeStop;
-pub use growth::{ExpandStop, Successor, successors};
+pub use growth::{expand, successors};
 
 /// Variables in order.
 pub type Vars = Sequence<Var>;

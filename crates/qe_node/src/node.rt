@@ -1,12 +1,11 @@
 //! Nodes.
 
-ghost use Rattle.std.specs.Prelude.{◌≡◌, IfOk, eqb, map};
+ghost use Rattle.std.specs.Prelude.{◌≡◌, eqb, map};
 ghost use Rattle.std.specs.Cmp.{partial_equiv_from_equiv};
 ghost use Rattle.qe_node.specs.Equal.{same_sight, same_sight_equiv, sight_fed, sight_fed_alike};
 ghost use lib.Pointwise.{pointwise};
 
-use crate::{Form, OutOfMemory, Sequence, Var, Vars};
-use std::alloc::Global;
+use crate::{Form, Var, Vars};
 use std::hash::{Hash, Hasher};
 use std::marker::Model;
 
@@ -62,17 +61,5 @@ impl Hash for Node {
     fn hash<H: Hasher>(&self, state: &mut H) {
         self.vars.items().hash(state);
         self.form.hash(state);
-    }
-}
-
-impl Node {
-    /// The same node in memory of its own. `Err` for want of memory alone.
-    pub fn copy(&self, alloc: Global) -> Result<Node, OutOfMemory>
-        ensures { IfOk result (λ n. n ≡ self.now) }
-    {
-        Ok(Node {
-            vars: Sequence::from_vec(self.vars.items().to_vec(alloc)?),
-            form: self.form.copy(alloc)?,
-        })
     }
 }

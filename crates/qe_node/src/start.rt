@@ -4,10 +4,17 @@ ghost use Rattle.std.specs.Prelude.{◌≡◌, ◌≢◌, ◌<◌, ◌^◌, map,
 ghost use Rattle.qe_form.specs.Measures.{count};
 ghost use Rattle.qe_form.specs.Plain.{IsPlainAndProper};
 ghost use Rattle.qe_form.specs.Tree.{tree};
-ghost use Rattle.qe_tree.specs.Variables.{remaining};
+ghost use Rattle.qe_tree.specs.Variables.{occurs, remaining};
 
 use crate::{Form, Node, OutOfMemory, Sequence, Var, Vars};
 use std::alloc::Global;
+
+/// Whether the variable occurs in the formula.
+fn occurs(form: &Form, var: Var) -> bool
+    ensures { result ≡ occurs var.0 (tree form.now) }
+{
+    form.has(var)
+}
 
 /// Those of the variables that occur in a formula, in their order.
 fn remaining(alloc: Global, vars: &[Var], form: &Form) -> Result<Vars, OutOfMemory>
@@ -15,7 +22,7 @@ fn remaining(alloc: Global, vars: &[Var], form: &Form) -> Result<Vars, OutOfMemo
 {
     let mut left = Sequence::new(alloc);
     for var in vars {
-        if form.has(*var) {
+        if occurs(form, *var) {
             left.push(*var)?;
         }
     }

@@ -7,7 +7,7 @@ ghost use Rattle.qe_form.specs.Formula.{And, more, no_more};
 ghost use Rattle.qe_form.specs.Tree.{tree};
 ghost use Rattle.qe_points.specs.Guarded.{HasRoot, own};
 ghost use Rattle.qe_node.specs.Successors.{fails, stop_at, put_in, tried, unless_false};
-ghost use Rattle.qe_node.specs.Trial.{trial_of};
+ghost use Rattle.qe_node.specs.Trial.{trial_of, GivesFit, HasFitGuard, MayStand};
 
 use crate::{Form, NodeStop, OutOfMemory, Sequence, Var};
 use qe_points::{Candidate, GuardedPoint, Poly, SubstStop, guarded};
@@ -27,6 +27,7 @@ pub enum Trial {
 fn stopped(stop: SubstStop, point: u64) -> Result<Trial, OutOfMemory>
     ensures memory { IfOk result (λ _. stop ≢ SubstStop.OutOfMemory) }
     ensures stop { IfOk result (λ t. trial_of t ≡ fails (stop_at point stop)) }
+    ensures fit { IfOk result GivesFit }
 {
     match stop {
         SubstStop::At { atom, stage, limit } => Ok(Trial::Failed(NodeStop::Limit {
@@ -62,7 +63,9 @@ fn both(alloc: Global, left: Form, right: Form) -> Result<Form, OutOfMemory>
 
 /// No successor where the formula is False, and else that with the formula.
 fn unless_false(form: Form) -> Trial
-    ensures { trial_of result ≡ unless_false (tree form) }
+    requires { MayStand (tree form) }
+    ensures exact { trial_of result ≡ unless_false (tree form) }
+    ensures fit { GivesFit result }
 {
     match form {
         Form::False => Trial::Skipped,
@@ -81,11 +84,16 @@ fn put_in(
 ) -> Result<Trial, OutOfMemory>
     requires degree { degree x.0 (tree form.now) ≤ 2 }
     requires proper { IsPlainAndProper (tree form.now) }
-    ensures { IfOk result (λ t. trial_of t ≡ put_in x.0 (tree form.now) number (tree found.guard) found.point (option_copied own.entry)) }
+    requires guard { HasFitGuard found }
+    ensures exact { IfOk result (λ t. trial_of t ≡ put_in x.0 (tree form.now) number (tree found.guard) found.point (option_copied own.entry)) }
+    ensures fit { IfOk result GivesFit }
 {
     let GuardedPoint { guard, point } = found;
     match substitute(alloc, form, x, &point, own) {
-        Ok(rest) => Ok(unless_false(simplify(alloc, both(alloc, guard, rest)?)?)),
+        Ok(rest) => {
+            let joined = simplify(alloc, both(alloc, guard, rest)?)?;
+            Ok(unless_false(joined))
+        }
         Err(stop) => stopped(stop, number),
     }
 }
@@ -101,7 +109,8 @@ pub fn try_candidate(
     requires degree { degree x.0 (tree form.now) ≤ 2 }
     requires proper { IsPlainAndProper (tree form.now) }
     requires root { HasRoot x.0 candidate.now }
-    ensures { IfOk result (λ t. trial_of t ≡ tried x.0 (tree form.now) number candidate.now) }
+    ensures exact { IfOk result (λ t. trial_of t ≡ tried x.0 (tree form.now) number candidate.now) }
+    ensures fit { IfOk result GivesFit }
 {
     match guarded(alloc, candidate, x) {
         Ok(Some(found)) => put_in(alloc, form, x, found, own(candidate), number),

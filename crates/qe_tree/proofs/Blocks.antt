@@ -40,7 +40,7 @@ module _ {F : Type 0} (Good : Formula → Type 0) (expand : Expansion F) (sound 
     abbrev all_places : List Place
     all_places = places expand vars f
 
-    abbrev all_nodes : List Place
+    abbrev pub all_nodes : List Place
     all_nodes = nodes expand vars f
 
     none : HasNoQuantifier f
@@ -94,10 +94,10 @@ module _ {F : Type 0} (Good : Formula → Type 0) (expand : Expansion F) (sound 
       | inr later ↦ free_in_leaves gs each.1 y later
     ]
 
-    abbrev joined : Formula
+    abbrev pub joined : Formula
     joined = Or (trees_of (leaves expand vars all_nodes))
 
-    joined_fine : IsFine joined
+    pub joined_fine : IsFine joined
     joined_fine = fine_leaves (leaves expand vars all_nodes) each_leaf
 
     joined_stands : first_failure expand vars all_nodes ≡ None → Stands (under_ex vars f) joined

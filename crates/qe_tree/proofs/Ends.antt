@@ -39,7 +39,7 @@ module _ {F : Type 0} (expand : Expansion F) (vars : List ℕ) where
       by_first None rest = rest
 
   pub true_more : (done : List Place) (t : Place) → has_true_leaf expand vars done ≡ false → is_true t.form ≡ false → has_true_leaf expand vars (done ++ t ∷ []) ≡ false
-  true_more [] t none last = ap (λ b. b || false) last
+  true_more [] t = λ none last. ap (λ b. b || false) last
   true_more (p ∷ ps) t = by_first (is_true p.form) (true_more ps t)
     where
       by_first : (b : Bool) → (has_true_leaf expand vars ps ≡ false → is_true t.form ≡ false → has_true_leaf expand vars (ps ++ t ∷ []) ≡ false)

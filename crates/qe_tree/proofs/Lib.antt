@@ -9,3 +9,4 @@ pub mod Stands
 pub mod Blocks
 pub mod Searching
 pub mod Ends
+pub mod Small

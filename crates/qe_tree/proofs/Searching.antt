@@ -20,7 +20,7 @@ use Rattle.qe_tree.proofs.FirstPlaces.{among_in}
 abbrev pub forms : List Place → List Formula
 forms ps = map (λ p. p.form) ps
 
-forms-append : (ps qs : List Place) → forms (ps ++ qs) ≡ forms ps ++ forms qs
+pub forms-append : (ps qs : List Place) → forms (ps ++ qs) ≡ forms ps ++ forms qs
 forms-append [] qs = refl
 forms-append (p ∷ ps) qs = ap (λ fs. p.form ∷ fs) (forms-append ps qs)
 

@@ -2,7 +2,7 @@
 use Rattle.std.proofs.Common.{ℕ, zero, suc, ◌≡◌, ◌≢◌, ◌∙◌, sym, ap, refl, subst, ◌<◌, ◌≤◌, inl, inr, ◌⊎◌, List, [], ◌∷◌, ◌++◌, map, length, Some, None, arith}
 use Rattle.std.specs.List.{flat_map}
 use Rattle.qe_form.specs.Formula.{Formula}
-use Rattle.qe_form.specs.Measures.{Has}
+use Rattle.qe_form.specs.Measures.{Has, count}
 use Rattle.qe_tree.specs.Variables.{remaining}
 use Rattle.qe_tree.specs.Expanded.{Expanded, Expansion, successors, failed}
 use Rattle.qe_tree.specs.Tree.{Step, Place, unless_leaf, grown, failure_of, below, failure, walk}
@@ -71,16 +71,17 @@ module _ {F : Type 0} (Good : Formula → Type 0) (expand : Expansion F) (sound 
   pub record IsBelow (f g : Formula) : Type 0 where
     pub good : Good g
     pub less : left_of g < left_of f
+    pub small : count g ≤ 65538
     pub has : (y : ℕ) → Has y g → Has y f
 
   grown_below : (f : Formula) (x : ℕ) → IsIn x (remaining vars f) → (parts : List (ℕ × Formula)) → Each Good (forms_of parts)
-      → Each (λ g. (y : ℕ) → Has y g → Has y f × (y ≢ x)) (forms_of parts) → Each (λ s. IsBelow f s.1) parts
-  grown_below f x chosen [] good fewer = tt
-  grown_below f x chosen (s ∷ parts) good fewer =
-      (record { good = good.0; less = fewer_left vars f s.1 x chosen fewer.0; has = λ y h. (fewer.0 y h).0 }, grown_below f x chosen parts good.1 fewer.1)
+      → Each (λ g. (y : ℕ) → Has y g → Has y f × (y ≢ x)) (forms_of parts) → Each (λ g. count g ≤ 65538) (forms_of parts) → Each (λ s. IsBelow f s.1) parts
+  grown_below f x chosen [] good fewer small = tt
+  grown_below f x chosen (s ∷ parts) good fewer small =
+      (record { good = good.0; less = fewer_left vars f s.1 x chosen fewer.0; small = small.0; has = λ y h. (fewer.0 y h).0 }, grown_below f x chosen parts good.1 fewer.1 small.1)
 
   pub each_below : (f : Formula) → Good f → (x : ℕ) (parts : List (ℕ × Formula)) → expand (remaining vars f) f ≡ successors x parts → Each (λ s. IsBelow f s.1) parts
-  each_below f good x parts is = let grown = sound.grows vars f good x parts is in grown_below f x grown.chosen parts grown.good grown.fewer
+  each_below f good x parts is = let grown = sound.grows vars f good x parts is in grown_below f x grown.chosen parts grown.good grown.fewer grown.small
 
   with_steps : (x : ℕ) (f : Formula) (parts : List (ℕ × Formula)) → Each (λ s. IsBelow f s.1) parts → Each (λ s. IsBelow f s.1) (map (with_step x) parts)
   with_steps x f [] each = tt
