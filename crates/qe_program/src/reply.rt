@@ -7,7 +7,7 @@ ghost use Rattle.qe_form.specs.Plain.{IsPlain};
 ghost use Rattle.qe_form.specs.Numbered.{IsWellNumbered};
 ghost use Rattle.qe_norm.specs.Prenex as prenex_form;
 ghost use Rattle.qe_node.specs.declared.stop.NodeStop.{NodeStop};
-ghost use Rattle.qe_block.specs.Answer.{steps_of};
+ghost use Rattle.qe_block.specs.Search.{steps_of};
 ghost use Rattle.qe_program.specs.Reply.{Says, RepliesToPrenex, RepliesToFormula, RepliesToFault, Replies, Delivers};
 ghost use Rattle.qe_program.specs.Refusal.{limit_status, stop_status};
 ghost use Rattle.qe_program.specs.Output.{line, usage_line, too_long_line, prenex_too_large_line, node_line, node_limit_line};
