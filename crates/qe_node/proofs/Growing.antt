@@ -1,5 +1,5 @@
 -- The successors that the code finds, one candidate after another.
-use Rattle.std.proofs.Common.{ℕ, suc, ◌+◌, ◌≡◌, ◌∙◌, ◌<◌, ◌≤◌, sym, ap, refl, subst, Bool, true, false, cond, List, [], ◌∷◌, ◌++◌, map, length, get_or, drop, drop-cons, add-one, append_assoc, append-nil, Option, Some, None, Result, Ok, Err}
+use Rattle.std.proofs.Common.{ℕ, suc, ◌+◌, ◌≡◌, ◌∙◌, ◌<◌, ◌≤◌, sym, ap, refl, subst, Bool, true, false, cond, List, [], ◌∷◌, ◌++◌, map, length, get_or, drop, drop-cons, add-one, arith, append_assoc, append-nil, Option, Some, None, Result, Ok, Err}
 use Rattle.std.specs.List.{All}
 use Rattle.std.proofs.lemmas.List.Elements.{All-weaker}
 use Rattle.qe_poly.specs.declared.monomial.Var.{Var}
@@ -16,7 +16,7 @@ use Rattle.qe_node.specs.declared.stop.NodeStop.TheVariants.{DegreeExcess}
 use Rattle.qe_node.specs.declared.growth.GrowthStop.{GrowthStop}
 use Rattle.qe_node.specs.Node.{Sight}
 use Rattle.qe_node.specs.Successors.{Tried, fails, skipped, gives, is_true, before, and_then, tried, given_by, at_variable, at_choice, variables, expansion}
-use Rattle.qe_node.specs.Answer.{others, below, shown, outcome_of}
+use Rattle.qe_node.specs.Answer.{others, below, shown, outcome_of, outcome}
 use Rattle.qe_node.specs.Growth.{nodes_below, IsGrowth}
 use Rattle.qe_node.proofs.Remaining.{numbers}
 
@@ -60,8 +60,9 @@ module _ (vars : List ℕ) where
 
     step : (t : Tried) → t ≡ tried x f i c → after_all made (nodes_below vars (and_then i t rest)) ≡ all
     step t same =
+        let next : i + 1 ≡ suc i = omega arith in
         ap (λ u. after_all made (nodes_below vars (and_then i u rest))) same
-        ∙ ap (λ n. after_all made (nodes_below vars (and_then i (tried x f i c) (given_by x f n (drop (i + 1) cs))))) (add-one {i})
+        ∙ ap (λ n. after_all made (nodes_below vars (and_then i (tried x f i c) (given_by x f n (drop (i + 1) cs))))) next
         ∙ ap (λ ds. after_all made (nodes_below vars (given_by x f i ds))) (sym split) ∙ so_far
 
     -- the node fails
@@ -69,8 +70,9 @@ module _ (vars : List ℕ) where
     turn_fails t s same failed = sym (step t same) ∙ ap (λ u. after_all made (nodes_below vars (and_then i u rest))) failed
 
     -- nothing is given
-    pub turn_skips : (t : Tried) → t ≡ tried x f i c → t ≡ skipped → after_all made (nodes_below vars rest) ≡ all
-    turn_skips t same none = ap (λ u. after_all made (nodes_below vars (and_then i u rest))) (sym none) ∙ step t same
+    pub turn_skips : (t : Tried) (now : List (ℕ × Sight)) → t ≡ tried x f i c → t ≡ skipped → now ≡ made → after_all now (nodes_below vars rest) ≡ all
+    turn_skips t now same none kept =
+        ap (λ m. after_all m (nodes_below vars rest)) kept ∙ (ap (λ u. after_all made (nodes_below vars (and_then i u rest))) (sym none) ∙ step t same)
 
     module _ (t : Tried) (g : Formula) (same : t ≡ tried x f i c) (given : t ≡ gives g) where
       given_step : (b : Bool) → b ≡ is_true g → after_all made (nodes_below vars (cond b (Ok ((i, g) ∷ [])) (before (i, g) rest))) ≡ all
@@ -116,12 +118,17 @@ same_variables : (vs : List Var) → variables (numbers vs) ≡ vs
 same_variables [] = refl
 same_variables (v ∷ vs) = ap (λ us. v ∷ us) (same_variables vs)
 
--- where a variable is chosen
-pub outcome_chosen : (f : Formula) (vs : List Var) (v : Var) (o : Option Var) → o ≡ choice f vs → o ≡ Some v
-    → nodes_below (others v.0 (numbers vs)) (given_by v.0 f 0 (candidates v.0 f)) ≡ outcome_of (numbers vs) (expansion (numbers vs) f)
-outcome_chosen f vs v o is some =
-    outcome_at v.0 (numbers vs) (given_by v.0 f 0 (candidates v.0 f)) ∙ ap (λ c. outcome_of (numbers vs) (at_choice f c)) (sym some ∙ is ∙ ap (choice f) (sym (same_variables vs)))
+module _ (n : Sight) (f : Formula) (vs items : List Var) (o : Option Var) (view : record { vars = numbers vs; form = f } ≡ n) (lent : items ≡ vs) (is : o ≡ choice f items) where
+  outcome_is : outcome n ≡ outcome_of (numbers items) (at_choice f o)
+  outcome_is =
+      sym (ap outcome view) ∙ (ap (λ us. outcome_of (numbers us) (expansion (numbers us) f)) (sym lent)
+      ∙ ap (λ c. outcome_of (numbers items) (at_choice f c)) (ap (choice f) (same_variables items) ∙ sym is))
 
--- where none is
-pub outcome_none : (f : Formula) (vs : List Var) (o : Option Var) → o ≡ choice f vs → o ≡ None → outcome_of (numbers vs) (expansion (numbers vs) f) ≡ Err DegreeExcess
-outcome_none f vs o is none = ap (λ c. outcome_of (numbers vs) (at_choice f c)) (ap (choice f) (same_variables vs) ∙ sym is ∙ none)
+  -- where a variable is chosen
+  pub outcome_chosen : (v : Var) (want : Result (List (ℕ × Sight)) NodeStop) → o ≡ Some v → nodes_below (others v.0 (numbers items)) (given_by v.0 f 0 (candidates v.0 f)) ≡ want → outcome n ≡ want
+  outcome_chosen v want some made =
+      outcome_is ∙ (ap (λ c. outcome_of (numbers items) (at_choice f c)) some ∙ (sym (outcome_at v.0 (numbers items) (given_by v.0 f 0 (candidates v.0 f))) ∙ made))
+
+  -- where none is
+  pub outcome_none : o ≡ None → outcome n ≡ Err DegreeExcess
+  outcome_none none = outcome_is ∙ ap (λ c. outcome_of (numbers items) (at_choice f c)) none

@@ -174,26 +174,30 @@ module _ (P : Formula → Type 0) where
       by_test false = each_before n g here others later
 
   module _ (x : ℕ) (f : Formula) where
-    gives_if : (n : ℕ) (c : Candidate) → P (successor x f c) → IfGives (tried x f n c)
+    -- no limit is met at the candidate's point
+    abbrev IsWithout : Candidate → Type 0
+    IsWithout c = stop x (point_of x c) (own c) f ≡ None
+
+    gives_if : (n : ℕ) (c : Candidate) → (IsWithout c → P (successor x f c)) → IfGives (tried x f n c)
     gives_if n c here = by_limit (limit x c)
       where
-        by_false : (b : Bool) → IfGives (cond b skipped (gives (successor x f c)))
-        by_false true = tt
-        by_false false = here
+        by_false : IsWithout c → (b : Bool) → IfGives (cond b skipped (gives (successor x f c)))
+        by_false without true = tt
+        by_false without false = here without
 
-        by_stop : (s : Option SubstStop) → IfGives (after_stop n (successor x f c) s)
-        by_stop (Some s) = tt
-        by_stop None = by_false (is_false (successor x f c))
+        by_stop : (s : Option SubstStop) → stop x (point_of x c) (own c) f ≡ s → IfGives (after_stop n (successor x f c) s)
+        by_stop (Some s) is = tt
+        by_stop None is = by_false is (is_false (successor x f c))
 
         by_guard : (b : Bool) → IfGives (cond b skipped (put_in x f n (simplified (guard x c)) (point_of x c) (own c)))
         by_guard true = tt
-        by_guard false = by_stop (stop x (point_of x c) (own c) f)
+        by_guard false = by_stop (stop x (point_of x c) (own c) f) refl
 
         by_limit : (o : Option PolyLimit) → IfGives (after_limit x f n c o)
         by_limit (Some polynomial) = tt
         by_limit None = by_guard (is_false (simplified (guard x c)))
 
-    -- what holds of the simplified And of guard and form at each candidate holds of each successor
-    pub each_given : (n : ℕ) (cs : List Candidate) → Each (λ c. P (successor x f c)) cs → HoldOfEach (given_by x f n cs)
+    -- what holds of the simplified And of guard and form at each candidate, where no limit is met, holds of each successor
+    pub each_given : (n : ℕ) (cs : List Candidate) → Each (λ c. IsWithout c → P (successor x f c)) cs → HoldOfEach (given_by x f n cs)
     each_given n [] here = λ parts is. let e : parts ≡ [] = cc in subst (λ ps. Each P (forms_of ps)) (sym e) tt
     each_given n (c ∷ cs) here = each_next n (tried x f n c) (gives_if n c here.0) (given_by x f (suc n) cs) (each_given (suc n) cs here.1)

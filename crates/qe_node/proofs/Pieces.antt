@@ -1,5 +1,9 @@
 -- What `expand` answers, by the keys of the successors.
-use Rattle.std.proofs.Common.{ℕ, ◌≡◌, ◌∙◌, sym, ap, refl, subst, Bool, List, [], ◌∷◌, map, Result, Ok, Err}
+use Rattle.std.specs.Prelude.{◌&&◌}
+use Rattle.std.proofs.lemmas.Bool.Decides.{nat_tests}
+use Rattle.qe_poly.specs.declared.monomial.Var.{Var}
+use Rattle.qe_form.specs.Formula.{Formula}
+use Rattle.std.proofs.Common.{suc, true, false, eqb, length, arith, ℕ, ◌≡◌, ◌∙◌, sym, ap, refl, subst, Bool, List, [], ◌∷◌, map, Result, Ok, Err}
 use Rattle.qe_piece.specs.Meaning.{Child, gives, fails, child_of, Answers}
 use Rattle.qe_piece.specs.declared.maker.Next.{Next}
 use Rattle.qe_piece.specs.declared.maker.Made.{Made}
@@ -7,7 +11,9 @@ use Rattle.qe_piece.specs.declared.maker.Made.TheVariants as made
 use Rattle.qe_node.specs.declared.stop.NodeStop.{NodeStop}
 use Rattle.qe_node.specs.Node.{Sight, sight_key, sight_of, sight-back}
 use Rattle.qe_node.specs.Answer.{outcome, shown, IsAnswer}
-use Rattle.qe_node.specs.Piece.{by_keys, meaning_of}
+use Rattle.qe_node.specs.Piece.{is_empty, leaf_of, truth_of, height_of, by_keys, meaning_of}
+use Rattle.qe_node.specs.Successors.{is_true}
+use Rattle.qe_node.proofs.Remaining.{numbers}
 
 children-shown : (list : List (Next Sight)) → map (λ s. record { point = s.0; key = sight_key s.1 }) (shown list) ≡ map (child_of sight_key) list
 children-shown [] = refl
@@ -21,3 +27,30 @@ at_node n told made.OutOfMemory is = is
 
 pub by_key : (n : Sight) (told : Bool) (r : Made Sight NodeStop) → IsAnswer (outcome n) told r → Answers sight_key (meaning_of (sight_of (sight_key n))) told r
 by_key n told r is = subst (λ m. Answers sight_key (meaning_of m) told r) (sym (sight-back n)) (at_node n told r is)
+
+-- ---- what the methods answer, of a node by its fields
+
+module _ (n : Sight) (vs items : List Var) (g : Formula) (view : record { vars = numbers vs; form = g } ≡ n) (lent : items ≡ vs) where
+  seen : sight_of (sight_key n) ≡ record { vars = numbers items; form = g }
+  seen = sight-back n ∙ (sym view ∙ ap (λ us. record { vars = numbers us; form = g }) (sym lent))
+
+  empty_is : (us : List Var) → eqb (length us) 0 ≡ is_empty (numbers us)
+  empty_is [] = refl
+  empty_is (u ∷ us) = grind (arith, nat_tests)
+
+  pub leaf_is : (b : Bool) → b ≡ eqb (length items) 0 → b ≡ leaf_of (sight_of (sight_key n))
+  leaf_is b is = is ∙ (empty_is items ∙ sym (ap leaf_of seen))
+
+  pub true_is : (e b : Bool) → e ≡ eqb (length items) 0 → e ≡ true → b ≡ is_true g → b ≡ truth_of (sight_of (sight_key n))
+  true_is e b empty holds is =
+      is ∙ (ap (λ c. c && is_true g) (sym holds ∙ (empty ∙ empty_is items)) ∙ sym (ap truth_of seen))
+
+  pub other_is : (e : Bool) → e ≡ eqb (length items) 0 → e ≡ false → e ≡ truth_of (sight_of (sight_key n))
+  other_is e empty fails = fails ∙ (ap (λ c. c && is_true g) (sym fails ∙ (empty ∙ empty_is items)) ∙ sym (ap truth_of seen))
+
+  length_is : (us : List Var) → length us ≡ length (numbers us)
+  length_is [] = refl
+  length_is (u ∷ us) = ap suc (length_is us)
+
+  pub rank_is : length items ≡ height_of (sight_of (sight_key n))
+  rank_is = length_is items ∙ sym (ap height_of seen)

@@ -1,5 +1,5 @@
 -- The successors of a node are grown from it, and the expansion of nodes is sound.
-use Rattle.std.proofs.Common.{ℕ, ◌≡◌, ◌≢◌, ◌≤◌, ◌⊎◌, inl, inr, ◌↔◌, ◌∙◌, sym, ap, refl, subst, Bool, true, false, cond, eqb, List, [], ◌∷◌, map, Option, Some, None, Result, Ok, Err, IfSome, length, get_or}
+use Rattle.std.proofs.Common.{arith, ℕ, ◌≡◌, ◌≢◌, ◌≤◌, ◌⊎◌, inl, inr, ◌↔◌, ◌∙◌, sym, ap, refl, subst, Bool, true, false, cond, eqb, List, [], ◌∷◌, map, Option, Some, None, Result, Ok, Err, IfSome, length, get_or}
 use Rattle.qe_tower.specs.Point.{Point, IsPoint}
 use Rattle.qe_line.specs.Place as line
 use Rattle.qe_poly.specs.declared.monomial.Var.{Var}
@@ -7,7 +7,7 @@ use Rattle.qe_poly.specs.Polynomial.{Polynomial, IsPolynomial}
 use Rattle.qe_poly.specs.Coefficients.{degree_in}
 use Rattle.qe_form.specs.declared.form.Atom as atom
 use Rattle.qe_form.specs.Formula.{Formula, Formulas, True, False, Atom, And, Or, Ex, no_more, more}
-use Rattle.qe_form.specs.Measures.{degree, Has}
+use Rattle.qe_form.specs.Measures.{degree, count, Has}
 use Rattle.qe_form.specs.Plain.{IsPlain, IsPlainWith, IsPlainAndProper}
 use Rattle.qe_form.specs.Same.{IsFree, HasNoQuantifier}
 use Rattle.qe_form.specs.Tree.{trees_of}
@@ -17,6 +17,7 @@ use Rattle.qe_simp.specs.Simplified.{simplified}
 use Rattle.qe_simp.specs.Meaning.{Keeps}
 use Rattle.qe_simp.specs.Shape.{IsSimple, IsSimplified, EachAtom, IsCanonical}
 use Rattle.qe_simp.proofs.Kept.{simplified_keeps}
+use Rattle.qe_simp.proofs.Sizes.{simplified_size}
 use Rattle.qe_simp.proofs.Shapes.{plain_weaker, plain_atoms, plain_no_quantifier, simplified_is, simplified_is_plain, simplified_is_proper, simplified_no_quantifier}
 use Rattle.qe_root.specs.declared.point.Point as code
 use Rattle.qe_root.specs.declared.point.Point.TheVariants as point
@@ -34,6 +35,7 @@ use Rattle.qe_points.proofs.Members as members
 use Rattle.qe_points.proofs.Enough.{is_of, made_complete}
 use Rattle.qe_points.proofs.Sound.{made_sound}
 use Rattle.qe_subst.specs.Left.{OccursAt}
+use Rattle.qe_subst.specs.Stop.{stop}
 use Rattle.qe_subst.proofs.Truth.{substituted_means}
 use Rattle.qe_subst.proofs.LeftOver.{made_left}
 use Rattle.qe_tree.specs.Variables.{remaining}
@@ -46,6 +48,7 @@ use Rattle.qe_node.specs.Successors.{given_by, at_variable, at_choice, variables
 use Rattle.qe_node.proofs.Canonical.{IsOverPolynomial, substituted_fine, point_fine, guard_of_fine}
 use Rattle.qe_node.proofs.Fine.{atoms_fine, candidates_fine}
 use Rattle.qe_node.proofs.Grown.{IsUsable, at_candidate, successor, told, each_given}
+use Rattle.qe_node.proofs.Tries.{guard_small, substituted_small}
 
 -- ---- fine formulas
 
@@ -56,7 +59,7 @@ fine_atoms : (f : Formula) → IsFine f → EachAtom IsCanonical f
 fine_atoms f h = plain_atoms IsCanonical f h
 
 pub simplified_fine : (f : Formula) → IsSimplified f → IsFine f
-simplified_fine f h = plain_weaker IsSimple (λ a. IsPolynomial a.poly) (λ a k. k.canonical) f h.simple
+simplified_fine f h = plain_weaker IsSimple (λ a. IsPolynomial a.poly) (λ a k. k.primitive.canonical) f h.simple
 
 pub fine_simplified : (f : Formula) → IsFine f → IsSimplified (simplified f)
 fine_simplified f h = simplified_is f (fine_plain f h) (fine_atoms f h)
@@ -155,6 +158,14 @@ module _ (x : ℕ) (f : Formula) (good : IsSimplified f) (low : degree x f ≤ 2
   abbrev IsReady : Candidate → Type 0
   IsReady c = IsUsable x f c × (IsSimplified (successor x f c) × ((y : ℕ) → Has y (successor x f c) → Has y f × (y ≢ x)))
 
+  small : (c : Candidate) → IsUsable x f c → stop x (point_of x c) (own c) f ≡ None → count (successor x f c) ≤ 65538
+  small c u none =
+      let most = u.kept.size in
+      let few = simplified_size (guard x c) in
+      let two = guard_small x c in
+      let some = substituted_small x (point_of x c) (own c) f none in
+      omega arith
+
   ready : Each IsReady (candidates x f)
   ready = both_each (IsOf x f) IsOverPolynomial IsReady (λ c of over. (usable c of over, (good_successor c of over, fewer c of over))) (candidates x f)
       (each_of (IsOf x f) (candidates x f) (is_of x f)) (candidates_fine x f fine)
@@ -165,8 +176,9 @@ module _ (x : ℕ) (f : Formula) (good : IsSimplified f) (low : degree x f ≤ 2
   grown : (vars : List ℕ) (parts : List (ℕ × Formula)) → IsIn x vars → given_by x f 0 (candidates x f) ≡ Ok parts → IsGrown IsSimplified vars f x parts
   grown vars parts chosen is = record {
     chosen = chosen;
-    good = each_given IsSimplified x f 0 (candidates x f) (each_ready (λ c h. h.1.0)) parts is;
-    fewer = each_given (λ g. (y : ℕ) → Has y g → Has y f × (y ≢ x)) x f 0 (candidates x f) (each_ready (λ c h. h.1.1)) parts is;
+    good = each_given IsSimplified x f 0 (candidates x f) (each_ready (λ c h none. h.1.0)) parts is;
+    fewer = each_given (λ g. (y : ℕ) → Has y g → Has y f × (y ≢ x)) x f 0 (candidates x f) (each_ready (λ c h none. h.1.1)) parts is;
+    small = each_given (λ g. count g ≤ 65538) x f 0 (candidates x f) (each_ready (λ c h none. small c h.0 none)) parts is;
     truth = λ p valid.
         let all = (complete x f fine low).true_side p valid in
         let some = told x f p valid 0 (candidates x f) (each_ready (λ c h. h.0)) parts is in

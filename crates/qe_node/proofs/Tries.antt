@@ -62,27 +62,27 @@ no_size_limit n none = by (ltb 65536 n) refl none
     by true test e = absurd (cc)
     by false test e = grind (arith, nat_tests)
 
-after_first : (o rest : Option SubstStop) → elim o [ Some s ↦ Some s | None ↦ rest ] ≡ None → rest ≡ None
+after_first : (o rest : Option SubstStop) → ◌≡◌ {A = Option SubstStop} (elim o [ Some s ↦ Some s | None ↦ rest ]) None → rest ≡ None
 after_first (Some s) rest none = absurd (cc)
 after_first None rest none = none
 
-substituted_small : (x : ℕ) (p : Point) (from : Option Polynomial) (f : Formula) → stop x p from f ≡ None → count (substituted x p from f) ≤ 65536
+pub substituted_small : (x : ℕ) (p : Point) (from : Option Polynomial) (f : Formula) → stop x p from f ≡ None → count (substituted x p from f) ≤ 65536
 substituted_small x p from f none = no_size_limit (count (substituted x p from f)) (after_first (first_limit x p from 0 (atoms f)) (size_limit x p from f) none)
 
 proper_plain : (f : Formula) → IsPlainAndProper f → IsPlain f
 proper_plain f h = plain_weaker (λ a. IsProper a.signs) (λ a. Unit {0}) (λ a k. tt) f h
 
 -- the simplified And of a guard and of the formula at its point
-pub may_stand : (x : ℕ) (p : Point) (from : Option Polynomial) (f g h joined result : Formula) → IsPlainAndProper g → count g ≤ 2 → IsPlainAndProper h → stop x p from f ≡ None → h ≡ substituted x p from f
-    → joined ≡ And (more g (more h no_more)) → Keeps joined result → (IsPlain joined → IsSimplified result) → MayStand result
-may_stand x p from f g h joined result proper few rest none same is kept simple = record {
-  proper = simplified_is_proper result (simple (subst IsPlain (sym is) (proper_plain g proper, (proper_plain h rest, tt))));
-  small = count_of_both g h (count result) few (subst (λ k. count k ≤ 65536) (sym same) (substituted_small x p from f none)) (subst (λ k. count result ≤ max 1 (count k)) is kept.size);
+pub may_stand : (x : ℕ) (p : Point) (from : Option Polynomial) (f g h joined given : Formula) → IsPlainAndProper g → count g ≤ 2 → IsPlainAndProper h → stop x p from f ≡ None → h ≡ substituted x p from f
+    → joined ≡ And (more g (more h no_more)) → Keeps joined given → (IsPlain joined → IsSimplified given) → MayStand given
+may_stand x p from f g h joined given proper few rest none same is kept simple = record {
+  proper = simplified_is_proper given (simple (subst IsPlain (sym is) (proper_plain g proper, (proper_plain h rest, tt))));
+  small = count_of_both g h (count given) few (subst (λ k. count k ≤ 65536) (sym same) (substituted_small x p from f none)) (subst (λ k. count given ≤ max 1 (count k)) is kept.size);
 }
 
 -- ---- a guard has two atoms at most
 
-guard_small : (x : ℕ) (c : Candidate) → count (guard x c) ≤ 2
+pub guard_small : (x : ℕ) (c : Candidate) → count (guard x c) ≤ 2
 guard_small x (Root q n Linear plus) = by (eqb (degree_in x q) 2)
   where
     by : (b : Bool) → count (cond b (And (more (Atom (record { poly = coefficient_in x 2 q; signs = equal })) (more (Atom (record { poly = coefficient_in x 1 q; signs = not_equal })) no_more))) (Atom (record { poly = coefficient_in x 1 q; signs = not_equal }))) ≤ 2

@@ -73,9 +73,9 @@ height k = height_of (sight_of k)
 
 each_less : (vars : List ℕ) (bound : ℕ) → length vars < bound → (parts : List (ℕ × Formula))
     → All (λ (child : Child). height child.key < bound) (map (λ s. record { point = s.0; key = sight_key s.1 }) (below vars parts))
-each_less vars bound less [] = All-nil _
+each_less vars bound less [] = All-nil (λ (child : Child). height child.key < bound)
 each_less vars bound less (s ∷ parts) =
-    All-cons _ _ _ (subst (λ xs. length xs < bound) (sym (variables-key (remaining vars s.1) s.1)) (let most = at_most (λ x. occurs x s.1) vars in omega arith)) (each_less vars bound less parts)
+    All-cons (λ (child : Child). height child.key < bound) (record { point = s.0; key = key (remaining vars s.1) s.1 }) (map (λ t. record { point = t.0; key = sight_key t.1 }) (below vars parts)) (subst (λ xs. length xs < bound) (sym (variables-key (remaining vars s.1) s.1)) (let most = at_most (λ x. occurs x s.1) vars in omega arith)) (each_less vars bound less parts)
 
 descends_at : (vars : List ℕ) (f : Formula) (o : Option Var) → choice f (variables vars) ≡ o → Descends height (length vars) (by_keys (outcome_of vars (at_choice f o)))
 descends_at vars f None is = tt
