@@ -94,19 +94,19 @@ module _ (run : Run) (answer : Status) (nothing : AsksNothing run.words) where
 
 pub by_memory : (run : Run) (answer : Status) → answer ≡ status.OutOfMemory → WroteNothing run → Causes run answer
 by_memory run answer is nothing = record {
-    ok = λ e. absurd (cc);
-    usage = λ e. absurd (cc);
-    read_fault = λ e. absurd (cc);
-    input_too_long = λ e. absurd (cc);
-    bad_input = λ e. absurd (cc);
-    too_large = λ e. absurd (cc);
-    degree_excess = λ e. absurd (cc);
-    overflow = λ e. absurd (cc);
-    term_limit = λ e. absurd (cc);
-    node_limit = λ e. absurd (cc);
-    write_fault = λ e. absurd (cc);
-    out_of_memory = λ e. nothing;
-    complete = λ limit asks. always_told run.left _ (λ bytes few i r w. inr is);
+  ok = λ e. absurd (cc);
+  usage = λ e. absurd (cc);
+  read_fault = λ e. absurd (cc);
+  input_too_long = λ e. absurd (cc);
+  bad_input = λ e. absurd (cc);
+  too_large = λ e. absurd (cc);
+  degree_excess = λ e. absurd (cc);
+  overflow = λ e. absurd (cc);
+  term_limit = λ e. absurd (cc);
+  node_limit = λ e. absurd (cc);
+  write_fault = λ e. absurd (cc);
+  out_of_memory = λ e. nothing;
+  complete = λ limit asks. always_told run.left _ (λ bytes few i r w. inr is);
 }
 
 -- the words ask for elimination with this limit, and no other

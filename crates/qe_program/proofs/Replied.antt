@@ -30,16 +30,19 @@ module _ (limit : ℕ) (f : Formula) (names : List Letters) (whole : Formula) (k
   by_formula : RepliesByFormula limit (blocks f names) (matrix f names) (all_names f names) whole reply → RepliesToFormula limit f names reply
   by_formula r =
       let all_same : HasDecidedCore f → Same f r.answer = λ core. same_is_preorder.transitive f whole r.answer (same core) r.same in
-      inl (r.says.0, record {
-        answer = r.answer;
-        written = r.says.1;
-        no_quantifier = r.no_quantifier;
-        keeps = preserves_is_preorder.transitive f whole r.answer keeps (preserves_is_preorder.same whole r.answer r.same);
-        same_points = all_same;
-        same_outer = λ outer. all_same (cores_are_decided.outer f outer);
-        exact = r.is_given;
-        fits = r.fits;
-      })
+      inl (
+        r.says.0,
+        record {
+          answer = r.answer;
+          written = r.says.1;
+          no_quantifier = r.no_quantifier;
+          keeps = preserves_is_preorder.transitive f whole r.answer keeps (preserves_is_preorder.same whole r.answer r.same);
+          same_points = all_same;
+          same_outer = λ outer. all_same (cores_are_decided.outer f outer);
+          exact = r.is_given;
+          fits = r.fits;
+        },
+      )
 
   by_node : RepliesByNode limit (blocks f names) (matrix f names) (all_names f names) reply → RepliesToFormula limit f names reply
   by_node r = inr (record {
@@ -114,7 +117,7 @@ formula_replied limit bytes input (Ok reply) is only h =
           inr (
             record { why = bad.why; reason = so.0; is_so = so.1; status_is = bad.says.0; written = bad.says.1 },
             λ answered.
-              let same = only answered.formula answered.names answered.is_input in
-              bad.unanswered (subst (λ f. HasAnswer limit f input.names) (sym same.0) (subst (λ ns. HasAnswer limit answered.formula ns) (sym same.1) answered.holds)),
+                let same = only answered.formula answered.names answered.is_input in
+                bad.unanswered (subst (λ f. HasAnswer limit f input.names) (sym same.0) (subst (λ ns. HasAnswer limit answered.formula ns) (sym same.1) answered.holds)),
           )
     ]

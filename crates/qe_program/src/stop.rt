@@ -90,7 +90,11 @@ fn push_site(out: &mut String, stop: &NodeStop) -> Result<(), OutOfMemory>
             stage,
             limit,
         } => {
-            write!(out, " point {point} stage {} atom {atom}", stage_text(*stage))?;
+            write!(
+                out,
+                " point {point} stage {} atom {atom}",
+                stage_text(*stage)
+            )?;
             push_limit(out, limit)
         }
     }
