@@ -46,7 +46,7 @@ module _ (n : Sight) (vs items : List Var) (g : Formula) (view : record { vars =
       is ∙ (ap (λ c. c && is_true g) (sym holds ∙ (empty ∙ empty_is items)) ∙ sym (ap truth_of seen))
 
   pub other_is : (e : Bool) → e ≡ eqb (length items) 0 → e ≡ false → e ≡ truth_of (sight_of (sight_key n))
-  other_is e empty fails = fails ∙ (ap (λ c. c && is_true g) (sym fails ∙ (empty ∙ empty_is items)) ∙ sym (ap truth_of seen))
+  other_is e empty filled = filled ∙ (ap (λ c. c && is_true g) (sym filled ∙ (empty ∙ empty_is items)) ∙ sym (ap truth_of seen))
 
   length_is : (us : List Var) → length us ≡ length (numbers us)
   length_is [] = refl

@@ -16,7 +16,7 @@ use Rattle.qe_read.specs.Input.{IsInput, IsFirstFaultOf, IsReadAs}
 use Rattle.qe_norm.specs.declared.prenex.Prenex.{Prenex}
 use Rattle.qe_norm.specs.Prenex.{IsPrenexOf, stands_for}
 use Rattle.qe_tree.specs.Block.{given, stopped}
-use Rattle.qe_block.specs.Answer.{blocks_of}
+use Rattle.qe_elim.specs.Answer.{blocks_of}
 use Rattle.qe_program.specs.declared.reply.Reply.{Reply}
 use Rattle.qe_program.specs.declared.status.Status.TheVariants.{TooLarge}
 use Rattle.qe_program.specs.Output.{prenex_too_large_line}

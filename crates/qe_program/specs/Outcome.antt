@@ -7,7 +7,7 @@ use Rattle.qe_norm.specs.Prenex.{walk, size}
 use Rattle.qe_tree.specs.Block.{Block, Eliminated, eliminated, EachBlock, AtBlock, Fits, IsWithin, IsBeyond}
 use Rattle.qe_node.specs.declared.stop.NodeStop.{NodeStop}
 use Rattle.qe_node.specs.Successors.{expansion}
-use Rattle.qe_block.specs.Answer.{blocks_of}
+use Rattle.qe_elim.specs.Answer.{blocks_of}
 use Rattle.qe_read.specs.Names.{Letters}
 
 -- the blocks of the prenex form, its matrix, and the names of its variables

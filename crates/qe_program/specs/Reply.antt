@@ -17,7 +17,7 @@ use Rattle.qe_tree.specs.Block.{Block, given, stopped, eliminated, EachBlock, At
 use Rattle.qe_tree.specs.Block as tree_of
 use Rattle.qe_node.specs.declared.stop.NodeStop.{NodeStop}
 use Rattle.qe_node.specs.Successors.{expansion}
-use Rattle.qe_block.specs.Answer.{blocks_of}
+use Rattle.qe_elim.specs.Answer.{blocks_of}
 use Rattle.qe_program.specs.declared.reply.Reply.{Reply}
 use Rattle.qe_program.specs.declared.status.Status.{Status}
 use Rattle.qe_program.specs.declared.status.Status.TheVariants as status

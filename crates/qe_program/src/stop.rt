@@ -3,12 +3,12 @@
 ghost use Rattle.std.specs.Prelude.{◌≡◌, ◌++◌, codes, decimal, OnOk, IfOk};
 ghost use Rattle.std.specs.String.{string_bytes};
 ghost use Rattle.std.specs.Fmt.{signed_decimal};
-ghost use Rattle.qe_block.specs.Search.{steps_of};
+ghost use Rattle.qe_elim.specs.Search.{steps_of};
 ghost use Rattle.qe_program.specs.Output.{step_text, path_text, stage_text, limit_text, limit_cause, cause_text, site_text, node_line, node_limit_line};
 
 use crate::fault::push_wide;
 use qe_base::OutOfMemory;
-use qe_block::{NodeStop, Step};
+use qe_elim::{NodeStop, Step};
 use qe_form::Names;
 use qe_node::{PolyLimit, Stage};
 use qe_print::name_text;

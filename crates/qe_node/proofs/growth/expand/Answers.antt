@@ -16,4 +16,4 @@ returns-in-Ok-clause-answer g c =
 pub returns-in-Err-Failed-clause-answer : goal.returns-in-Err-Failed-clause-answer
 returns-in-Err-Failed-clause-answer g c =
     outcome_chosen c.args.node.now (tree c.node.inside.form) c.node.inside.vars c.items-vars.result.now c.choose.result c.node.view_is c.items-vars.ensures c.choose.ensures.exact c.in-Some.x (Err c.in-Err-Failed.fault)
-    c.in-Some.is c.in-Err-Failed.ensures.answer
+    c.in-Some.is (rw c.in-Err-Failed.field-0-is at c.in-Err-Failed.ensures.answer)

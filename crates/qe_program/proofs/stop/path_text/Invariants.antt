@@ -1,5 +1,5 @@
 use Rattle.std.proofs.Common.{◌≡◌, ◌++◌, drop}
-use Rattle.qe_block.specs.Search.{steps_of}
+use Rattle.qe_elim.specs.Search.{steps_of}
 use Rattle.qe_program.specs.Output.{path_text, further_text}
 use Rattle.qe_program.proofs.stop.path_text.Given as goal
 
