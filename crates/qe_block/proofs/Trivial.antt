@@ -1,6 +1,6 @@
 -- A prenex form of one block without variables over True.
-use Rattle.std.proofs.Common.{ℕ, zero, suc, ◌≡◌, ◌∙◌, sym, ap, subst, ◌<◌, ◌≤◌, ◌^◌, ◌-◌, length, get_or, nat_eq, List, [], ◌∷◌, ◌++◌, map, arith}
-use Rattle.std.specs.List.{IsDistinct, Contains, All}
+use Rattle.std.proofs.Common.{zero, suc, ◌≡◌, ◌∙◌, sym, ap, subst, ◌≤◌, length, nat_eq, [], ◌∷◌, ◌++◌, map, arith}
+use Rattle.std.specs.List.{IsDistinct, All}
 use Rattle.qe_form.specs.Formula.{Formula, True}
 use Rattle.qe_form.specs.Tree.{tree, tree_step}
 use Rattle.qe_form.specs.declared.form.Form.TheOpen as layer
