@@ -59,5 +59,13 @@ expect_nothing "README's two commands exist" commands
 expect_nothing 'no citation of a paper by number' citations
 expect_nothing 'each root file asks for tactics' roots
 
+# The examples of the documents, over the built program; the last line counts them.
+examples=$(bash checks/examples.sh)
+counts=$(tail -n 1 <<<"$examples")
+head -n -1 <<<"$examples"
+passed=$((passed + ${counts%% passed*}))
+counts=${counts#*, }
+failed=$((failed + ${counts%% failed*}))
+
 echo "$passed passed, $failed failed"
 [ "$failed" -eq 0 ]

@@ -4,6 +4,7 @@
 
 ghost use Rattle.std.specs.Prelude.{◌≡◌, ◌≢◌, ◌∷◌, [], map, IfOk, IsErr};
 ghost use Rattle.std.specs.String.{string_bytes};
+ghost use Rattle.qe_program.specs.Asked.{AsksNothing};
 
 use qe_base::{OutOfMemory, Sink, Source, StdSink, StdSource};
 use qe_program::{Status, run_alone};
@@ -40,8 +41,8 @@ fn outcome<S: Source, K: Sink>(
     sink: &mut K,
 ) -> Status
     ensures no_memory { IsErr words → (result ≡ Status.OutOfMemory) × (source.new ≡ source.old) × (sink.new ≡ sink.old) }
-    ensures words { IfOk words (λ all. all.items ≢ [] → source.new ≡ source.old) }
-    ensures answer { IfOk words (λ all. all.items ≢ [] → result ≢ Status.Ok) }
+    ensures words { IfOk words (λ all. AsksNothing (map string_bytes all.items) → source.new ≡ source.old) }
+    ensures answer { IfOk words (λ all. AsksNothing (map string_bytes all.items) → result ≢ Status.Ok) }
 {
     match words {
         Ok(words) => run_alone(alloc, &words, source, sink),

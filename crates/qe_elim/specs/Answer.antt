@@ -1,25 +1,56 @@
--- What the elimination of one linear variable answers.
-use Rattle.std.specs.Prelude.{◌≡◌, Option, Result, Ok, Err, Some, None}
-use Rattle.qe_form.specs.declared.form.Form.{Form}
+-- What eliminating the blocks of a prenex form answers.
+use Rattle.std.specs.Prelude.{ℕ, ◌≡◌, List, map, Result, Ok, Err}
 use Rattle.qe_form.specs.Formula.{Formula}
 use Rattle.qe_form.specs.Tree.{tree}
-use Rattle.qe_elim.specs.declared.linear.LinearStop.{LinearStop}
-use Rattle.qe_elim.specs.declared.linear.LinearStop.TheVariants as stop
-use Rattle.qe_poly.specs.declared.limit.PolyStop.{PolyStop}
-use Rattle.qe_poly.specs.declared.limit.PolyStop.TheVariants as met
-use Rattle.qe_elim.specs.Eliminated.{outcome}
+use Rattle.qe_form.specs.declared.form.Form.{Form}
+use Rattle.qe_simp.specs.Simplified.{simplified}
+use Rattle.qe_norm.specs.declared.prenex.Kind as norm
+use Rattle.qe_norm.specs.declared.prenex.Kind.TheVariants as kind
+use Rattle.qe_norm.specs.declared.prenex.Block as normal_form
+use Rattle.qe_tree.specs.Sound.{IsFine}
+use Rattle.qe_tree.specs.Block.{Quantifier, exists, for_all, Block, given, stopped, block_over, eliminated, EachBlock, AtBlock, Fits, IsWithin, IsBeyond}
+use Rattle.qe_node.specs.Successors.{expansion}
+use Rattle.qe_elim.specs.Search.{steps_of}
+use Rattle.qe_elim.specs.declared.eliminate.Outcome.{Outcome}
+use Rattle.qe_elim.specs.declared.eliminate.ElimStop.{ElimStop}
+use Rattle.qe_elim.specs.declared.eliminate.ElimStop.TheVariants as stop
 
--- why no formula is given, where an operation on polynomials gives none
-abbrev pub stop_for : PolyStop → LinearStop
-stop_for (met.Limit limit) = stop.NotBuilt
-stop_for met.OutOfMemory = stop.OutOfMemory
+abbrev pub quantifier_of : norm.Kind → Quantifier
+quantifier_of kind.Ex = exists
+quantifier_of kind.All = for_all
 
--- what the definition gives, as `shown` sees the result, or its failure; want of memory may come in place of either
-abbrev pub IsMade : {A B : Type 0} → (A → B) → Option B → Result A LinearStop → Type 0
-IsMade shown made (Ok a) = made ≡ Some (shown a)
-IsMade shown made (Err stop.NotBuilt) = made ≡ None
-IsMade shown made (Err stop.OutOfMemory) = Unit {0}
+abbrev pub block_of : normal_form.Block → Block
+block_of b = record { kind = quantifier_of b.kind; vars = map (λ x. x.0) b.vars }
 
--- the formula that the definition gives, or its failure
-abbrev pub IsAnswer : Formula → Result Form LinearStop → Type 0
-IsAnswer given result = IsMade tree (outcome given) result
+abbrev pub blocks_of : List normal_form.Block → List Block
+blocks_of bs = map block_of bs
+
+-- ---- a block
+
+-- the formula is the simplified form of one that the method works on
+abbrev pub IsRoot : Formula → Type 0
+IsRoot f = (m : Formula) × (IsFine m × (f ≡ simplified m))
+
+-- What the block with the number n gives over a matrix: a form, and its tree has a true leaf or at most the limit's number of distinct
+-- nodes; or its first node that fails, and the tree has at most that number; or the limit, where the tree has more.
+abbrev pub IsBlock : ℕ → ℕ → Block → Formula → Result Form ElimStop → Type 0
+IsBlock limit n b m (Ok f) = (block_over expansion b n (given m) ≡ given (tree f)) × Fits expansion limit b m
+IsBlock limit n b m (Err (stop.Node k path s)) = (k ≡ n) × (block_over expansion b n (given m) ≡ stopped n (steps_of path.items) s) × IsWithin expansion limit b m
+IsBlock limit n b m (Err (stop.NodeLimit k most)) = (k ≡ n) × (most ≡ limit) × IsBeyond expansion limit b m
+IsBlock limit n b m (Err stop.OutOfMemory) = Unit {0}
+
+-- ---- all blocks
+
+-- A form is what elimination gives, and each block's tree has a true leaf or at most the limit's number of distinct nodes. A failing
+-- node is the first of its block, the innermost that stops, whose tree has at most that number. The limit is met only where a
+-- block's tree has more, and the blocks further in give its matrix. Want of memory may come in place of each.
+abbrev pub IsAnswer : ℕ → List Block → Formula → Result Outcome ElimStop → Type 0
+IsAnswer limit bs m (Ok outcome) = (eliminated expansion bs m ≡ given (tree outcome.form)) × EachBlock expansion (Fits expansion limit) 1 bs m
+IsAnswer limit bs m (Err (stop.Node k path s)) = (eliminated expansion bs m ≡ stopped k (steps_of path.items) s) × AtBlock expansion (IsWithin expansion limit) k 1 bs m
+IsAnswer limit bs m (Err (stop.NodeLimit k most)) = (most ≡ limit) × AtBlock expansion (IsBeyond expansion limit) k 1 bs m
+IsAnswer limit bs m (Err stop.OutOfMemory) = Unit {0}
+
+-- the answer is not the limit
+abbrev pub IsNoLimit : Result Outcome ElimStop → Type 0
+IsNoLimit (Err (stop.NodeLimit k most)) = ⊥
+IsNoLimit r = Unit {0}

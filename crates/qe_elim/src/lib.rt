@@ -1,12 +1,17 @@
-//! Elimination of quantifiers by test points. So far one variable, which is linear.
+//! Elimination of the blocks of quantifiers of a prenex form, from the innermost, each by a search through its tree of nodes.
+//! Knows nothing of texts, nor of how a node gets its successors.
 #![tactic(auto)]
 
-mod candidates;
-mod fold;
-mod linear;
-mod measures;
-mod substitute;
+mod block;
+mod eliminate;
+mod fine;
+mod search;
+mod step;
 #[cfg(test)]
 mod tests;
 
-pub use linear::{LinearStop, eliminate_linear};
+pub use eliminate::{ElimStop, Outcome, eliminate_alone};
+pub use qe_form::Var;
+pub use qe_node::NodeStop;
+pub use std::alloc::AllocError as OutOfMemory;
+pub use step::Step;

@@ -1,5 +1,5 @@
 -- Each outcome of the top call is caused.
-use Rattle.std.proofs.Common.{ℕ, ◌≡◌, ◌∙◌, subst, inl, inr, List, [], Option, Some, None, Result, Ok, Err, arith}
+use Rattle.std.proofs.Common.{ℕ, ◌≡◌, ◌∙◌, ap, sym, refl, subst, Bool, true, false, inl, inr, List, [], Option, Some, None, Result, Ok, Err, arith}
 use Rattle.std.specs.Prelude.{IfSome, IfOk}
 use Rattle.std.specs.declared.alloc.AllocError.{AllocError}
 use Rattle.qe_program.specs.declared.reply.Reply.{Reply}
@@ -8,10 +8,13 @@ use Rattle.qe_program.specs.declared.status.Status.TheVariants as status
 use Rattle.qe_base.specs.Count.{Rose}
 use Rattle.qe_base.specs.Source.{LosesAll, HasMoreThan}
 use Rattle.qe_base.specs.Sink.{AppendsUpTo}
-use Rattle.qe_program.specs.Output.{too_long_line}
+use Rattle.qe_program.specs.Output.{usage_line, too_long_line}
 use Rattle.qe_program.specs.Headline.{Headline}
-use Rattle.qe_program.specs.Refusal.{IsAnswered, IsSo, IsRefusal}
-use Rattle.qe_program.specs.Causes.{Run, Wrote, WroteNothing, IsWithin, WroteRefusal, IsOutput, WroteFront, Causes}
+use Rattle.qe_poly.specs.declared.limit.PolyLimit.TheVariants as limits
+use Rattle.qe_node.specs.declared.stop.NodeStop.TheVariants as stop
+use Rattle.qe_program.specs.Asked.{Asks, AsksNothing, IsAsked}
+use Rattle.qe_program.specs.Refusal.{IsAnswered, Refusal, fault, prenex_too_large, node, too_many_nodes, IsSo, status_of, IsRefusal}
+use Rattle.qe_program.specs.Causes.{Run, Wrote, WroteNothing, IsWithin, Asked, WroteRefusal, IsReply, IsOutput, WroteFront, Refused, Causes}
 use Rattle.qe_program.specs.Reply.{Says, Replies, Delivers}
 
 -- what is said of the bytes that are told
@@ -23,58 +26,161 @@ always_told : (told : Option (List ℕ)) (Q : List ℕ → Type 0) → ((bytes :
 always_told None Q f = tt
 always_told (Some bytes) Q f = f bytes
 
-module _ (run : Run) (answer : Status) where
-  by_ok : answer ≡ status.Ok → run.words ≡ 0 → IfSome run.left (λ bytes. IsWithin bytes × (run.left_after ≡ Some [])) → Causes run answer
-  by_ok is no_words ended = record {
-    ok = λ e. (no_words, ended);
-    usage = λ e. absurd (cc);
+-- ---- the statuses of refusals
+
+abbrev is_refusal : Status → Bool
+is_refusal status.BadInput = true
+is_refusal status.TooLarge = true
+is_refusal status.DegreeExcess = true
+is_refusal status.Overflow = true
+is_refusal status.TermLimit = true
+is_refusal status.NodeLimit = true
+is_refusal _ = false
+
+refusal_status : (why : Refusal) → is_refusal (status_of why) ≡ true
+refusal_status (fault found) = refl
+refusal_status prenex_too_large = refl
+refusal_status (node all block path stop.DegreeExcess) = refl
+refusal_status (node all block path (stop.Limit point atom stage (limits.Coefficient wide))) = refl
+refusal_status (node all block path (stop.Limit point atom stage limits.Exponent)) = refl
+refusal_status (node all block path (stop.Limit point atom stage limits.Monomials)) = refl
+refusal_status (node all block path (stop.TooLarge point)) = refl
+refusal_status (too_many_nodes block most) = refl
+
+-- a status that is no refusal's
+no_refusal : (answer other : Status) (why : Refusal) → answer ≡ status_of why → is_refusal other ≡ false → answer ≡ other → ⊥
+no_refusal answer other why is not same =
+    let yes : is_refusal other ≡ true = ap is_refusal (sym same) ∙ (ap is_refusal is ∙ refusal_status why) in
+    let clash : true ≡ false = sym yes ∙ not in
+    cc
+
+-- ---- how a call ends
+
+-- the words ask for nothing
+module _ (run : Run) (answer : Status) (nothing : AsksNothing run.words) where
+  by_usage : answer ≡ status.Usage → Wrote run usage_line → Causes run answer
+  by_usage is wrote = record {
+    ok = λ e. absurd (cc);
+    usage = λ e. (nothing, wrote);
     read_fault = λ e. absurd (cc);
     input_too_long = λ e. absurd (cc);
     bad_input = λ e. absurd (cc);
+    too_large = λ e. absurd (cc);
+    degree_excess = λ e. absurd (cc);
+    overflow = λ e. absurd (cc);
+    term_limit = λ e. absurd (cc);
+    node_limit = λ e. absurd (cc);
     write_fault = λ e. absurd (cc);
     out_of_memory = λ e. absurd (cc);
-    no_other = ((λ e. cc), (λ e. cc), (λ e. cc), (λ e. cc), (λ e. cc));
-    complete = λ e. always_told run.left _ (λ bytes few i r w. inl is);
+    complete = λ limit asks. absurd (nothing limit asks);
   }
 
-  by_memory : answer ≡ status.OutOfMemory → WroteNothing run → Causes run answer
-  by_memory is nothing = record {
+  by_usage_fault : answer ≡ status.WriteFault → Rose run.write_faults run.write_faults_after → WroteFront run → Causes run answer
+  by_usage_fault is rose front = record {
     ok = λ e. absurd (cc);
     usage = λ e. absurd (cc);
     read_fault = λ e. absurd (cc);
     input_too_long = λ e. absurd (cc);
     bad_input = λ e. absurd (cc);
-    write_fault = λ e. absurd (cc);
-    out_of_memory = λ e. nothing;
-    no_other = ((λ e. cc), (λ e. cc), (λ e. cc), (λ e. cc), (λ e. cc));
-    complete = λ e. always_told run.left _ (λ bytes few i r w. inr is);
-  }
-
-  by_too_long : answer ≡ status.InputTooLong → run.words ≡ 0 → HasMoreThan 1048576 run.left → Wrote run too_long_line → Causes run answer
-  by_too_long is no_words many wrote = record {
-    ok = λ e. absurd (cc);
-    usage = λ e. absurd (cc);
-    read_fault = λ e. absurd (cc);
-    input_too_long = λ e. (no_words, many, wrote);
-    bad_input = λ e. absurd (cc);
-    write_fault = λ e. absurd (cc);
+    too_large = λ e. absurd (cc);
+    degree_excess = λ e. absurd (cc);
+    overflow = λ e. absurd (cc);
+    term_limit = λ e. absurd (cc);
+    node_limit = λ e. absurd (cc);
+    write_fault = λ e. (rose, front);
     out_of_memory = λ e. absurd (cc);
-    no_other = ((λ e. cc), (λ e. cc), (λ e. cc), (λ e. cc), (λ e. cc));
-    complete = λ e. where_told run.left _ _ (λ bytes more few i r w. absurd (omega arith)) many;
+    complete = λ limit asks. absurd (nothing limit asks);
   }
 
-  by_bad_input : answer ≡ status.BadInput → run.words ≡ 0 → WroteRefusal run → IfSome run.left (λ bytes. IsAnswered bytes → ⊥) → Causes run answer
-  by_bad_input is no_words wrote none = record {
-    ok = λ e. absurd (cc);
+pub by_memory : (run : Run) (answer : Status) → answer ≡ status.OutOfMemory → WroteNothing run → Causes run answer
+by_memory run answer is nothing = record {
+  ok = λ e. absurd (cc);
+  usage = λ e. absurd (cc);
+  read_fault = λ e. absurd (cc);
+  input_too_long = λ e. absurd (cc);
+  bad_input = λ e. absurd (cc);
+  too_large = λ e. absurd (cc);
+  degree_excess = λ e. absurd (cc);
+  overflow = λ e. absurd (cc);
+  term_limit = λ e. absurd (cc);
+  node_limit = λ e. absurd (cc);
+  write_fault = λ e. absurd (cc);
+  out_of_memory = λ e. nothing;
+  complete = λ limit asks. always_told run.left _ (λ bytes few i r w. inr is);
+}
+
+-- the words ask for elimination with this limit, and no other
+module _ (run : Run) (answer : Status) (limit : ℕ) (asks : Asks run.words limit) (only : (other : ℕ) → Asks run.words other → other ≡ limit) where
+  by_ok : answer ≡ status.Ok → IfSome run.left (λ bytes. IsWithin bytes × (run.left_after ≡ Some [])) → Causes run answer
+  by_ok is ended = record {
+    ok = λ e. (limit, asks, ended);
     usage = λ e. absurd (cc);
     read_fault = λ e. absurd (cc);
     input_too_long = λ e. absurd (cc);
-    bad_input = λ e. (no_words, wrote);
+    bad_input = λ e. absurd (cc);
+    too_large = λ e. absurd (cc);
+    degree_excess = λ e. absurd (cc);
+    overflow = λ e. absurd (cc);
+    term_limit = λ e. absurd (cc);
+    node_limit = λ e. absurd (cc);
     write_fault = λ e. absurd (cc);
     out_of_memory = λ e. absurd (cc);
-    no_other = ((λ e. cc), (λ e. cc), (λ e. cc), (λ e. cc), (λ e. cc));
-    complete = λ e. where_told run.left _ _ (λ bytes none few i r w. absurd (none i)) none;
+    complete = λ other asks. always_told run.left _ (λ bytes few i r w. inl is);
   }
+
+  by_read_fault : answer ≡ status.ReadFault → Rose run.read_faults run.read_faults_after → WroteNothing run → Causes run answer
+  by_read_fault is rose nothing = record {
+    ok = λ e. absurd (cc);
+    usage = λ e. absurd (cc);
+    read_fault = λ e. (limit, asks, (rose, nothing));
+    input_too_long = λ e. absurd (cc);
+    bad_input = λ e. absurd (cc);
+    too_large = λ e. absurd (cc);
+    degree_excess = λ e. absurd (cc);
+    overflow = λ e. absurd (cc);
+    term_limit = λ e. absurd (cc);
+    node_limit = λ e. absurd (cc);
+    write_fault = λ e. absurd (cc);
+    out_of_memory = λ e. absurd (cc);
+    complete = λ other asks. always_told run.left _ (λ bytes few i r w. absurd (r rose));
+  }
+
+  by_too_long : answer ≡ status.InputTooLong → HasMoreThan 1048576 run.left → Wrote run too_long_line → Causes run answer
+  by_too_long is many wrote = record {
+    ok = λ e. absurd (cc);
+    usage = λ e. absurd (cc);
+    read_fault = λ e. absurd (cc);
+    input_too_long = λ e. (limit, asks, (many, wrote));
+    bad_input = λ e. absurd (cc);
+    too_large = λ e. absurd (cc);
+    degree_excess = λ e. absurd (cc);
+    overflow = λ e. absurd (cc);
+    term_limit = λ e. absurd (cc);
+    node_limit = λ e. absurd (cc);
+    write_fault = λ e. absurd (cc);
+    out_of_memory = λ e. absurd (cc);
+    complete = λ other asks. where_told run.left _ _ (λ bytes more few i r w. absurd (omega arith)) many;
+  }
+
+  by_refusal : WroteRefusal run answer limit → IfSome run.left (λ bytes. IsAnswered limit bytes → ⊥) → Causes run answer
+  by_refusal refused none = record {
+    ok = λ e. absurd (no_refusal answer status.Ok refused.why refused.status_is refl e);
+    usage = λ e. absurd (no_refusal answer status.Usage refused.why refused.status_is refl e);
+    read_fault = λ e. absurd (no_refusal answer status.ReadFault refused.why refused.status_is refl e);
+    input_too_long = λ e. absurd (no_refusal answer status.InputTooLong refused.why refused.status_is refl e);
+    bad_input = refusal_of status.BadInput;
+    too_large = refusal_of status.TooLarge;
+    degree_excess = refusal_of status.DegreeExcess;
+    overflow = refusal_of status.Overflow;
+    term_limit = refusal_of status.TermLimit;
+    node_limit = refusal_of status.NodeLimit;
+    write_fault = λ e. absurd (no_refusal answer status.WriteFault refused.why refused.status_is refl e);
+    out_of_memory = λ e. absurd (no_refusal answer status.OutOfMemory refused.why refused.status_is refl e);
+    complete = λ other asks. where_told run.left _ _ (λ bytes none few i r w. absurd (none (subst (λ l. IsAnswered l bytes) (only other asks) i))) none;
+  }
+    where
+      refusal_of : (s : Status) → answer ≡ s → Refused run s
+      refusal_of s same = (limit, asks, subst (λ s. WroteRefusal run s limit) same refused)
 
   by_write_fault : answer ≡ status.WriteFault → Rose run.write_faults run.write_faults_after → WroteFront run → Causes run answer
   by_write_fault is rose front = record {
@@ -83,48 +189,67 @@ module _ (run : Run) (answer : Status) where
     read_fault = λ e. absurd (cc);
     input_too_long = λ e. absurd (cc);
     bad_input = λ e. absurd (cc);
+    too_large = λ e. absurd (cc);
+    degree_excess = λ e. absurd (cc);
+    overflow = λ e. absurd (cc);
+    term_limit = λ e. absurd (cc);
+    node_limit = λ e. absurd (cc);
     write_fault = λ e. (rose, front);
     out_of_memory = λ e. absurd (cc);
-    no_other = ((λ e. cc), (λ e. cc), (λ e. cc), (λ e. cc), (λ e. cc));
-    complete = λ e. always_told run.left _ (λ bytes few i r w. absurd (w rose));
+    complete = λ other asks. always_told run.left _ (λ bytes few i r w. absurd (w rose));
   }
 
 -- ---- what delivering a reply comes to
 
--- a reply that was cut off in the middle
-cut_off : (run : Run) (answer : Status) (text : List ℕ) → IsOutput run text → (answer ≡ status.WriteFault) × Rose run.write_faults run.write_faults_after × ((rest : List ℕ) × AppendsUpTo run.taken run.taken_after text rest) → Causes run answer
-cut_off run answer text output cut = by_write_fault run answer cut.0 cut.1 (record { text = text; is_output = output; rest = cut.2.0; wrote = cut.2.1 })
+-- the front of a text that was cut off
+front : (run : Run) (text : List ℕ) → IsOutput run text → ((rest : List ℕ) × AppendsUpTo run.taken run.taken_after text rest) → WroteFront run
+front run text output cut = record { text = text; is_output = output; rest = cut.0; wrote = cut.1 }
 
 abbrev Delivered : Run → Result Reply AllocError → Status → Type 0
 Delivered run reply answer = Delivers reply answer run.taken run.taken_after run.write_faults run.write_faults_after
 
--- the reply to bytes that were read to the end
-pub answered : (run : Run) (bytes : List ℕ) (reply : Result Reply AllocError) (answer : Status) → run.words ≡ 0 → LosesAll run.left run.left_after bytes → IsWithin bytes → IfOk reply (Replies bytes) → Delivered run reply answer → Causes run answer
-answered run bytes (Err e) answer no_words all few replies d = by_memory run answer d.0 d.1
-answered run bytes (Ok reply) answer no_words all few replies d =
-    elim replies [
-      | inl good ↦ elim d [
-        | inl whole ↦ by_ok run answer (whole.0 ∙ good.0) no_words (where_told run.left _ _ (λ told h. (subst IsWithin h.0 few, h.1)) all)
-        | inr cut ↦ cut_off run answer reply.text.items (inr (no_words, where_told run.left _ _ (λ told h. inl (subst IsWithin h.0 few, inl (subst (λ b. Headline b reply.text.items) h.0 good.1))) all)) cut
-      ]
-      | inr bad ↦ elim d [
-        | inl whole ↦ by_bad_input run answer (whole.0 ∙ bad.0) no_words
-            (record {
-              why = bad.1.why;
-              reason = bad.1.reason;
-              is_so = where_told run.left _ _ (λ told h. (subst IsWithin h.0 few, subst (λ b. IsSo b bad.1.why) h.0 bad.1.is_so)) all;
-              wrote = subst (λ text. Wrote run text) bad.1.written whole.1;
-            })
-            (where_told run.left _ _ (λ told h. subst (λ b. IsAnswered b → ⊥) h.0 bad.2) all)
-        | inr cut ↦ cut_off run answer reply.text.items (inr (no_words, where_told run.left _ _ (λ told h. inl (subst IsWithin h.0 few, inr (subst (λ b. IsRefusal b reply.text.items) h.0 bad.1))) all)) cut
-      ]
+-- the line for words that ask for nothing
+pub refused_words : (run : Run) (reply : Result Reply AllocError) (answer : Status) → AsksNothing run.words → IfOk reply (Says status.Usage usage_line) → Delivered run reply answer → Causes run answer
+refused_words run (Err e) answer nothing is d = by_memory run answer d.0 d.1
+refused_words run (Ok reply) answer nothing is d =
+    elim d [
+      | inl whole ↦ by_usage run answer nothing (whole.0 ∙ is.0) (subst (λ text. Wrote run text) is.1 whole.1)
+      | inr cut ↦ by_usage_fault run answer nothing cut.0 cut.1 (front run reply.text.items (inl (nothing, is.1)) cut.2)
     ]
 
--- the reply to bytes that were too many
-pub too_many : (run : Run) (reply : Result Reply AllocError) (answer : Status) → run.words ≡ 0 → HasMoreThan 1048576 run.left → IfOk reply (Says status.InputTooLong too_long_line) → Delivered run reply answer → Causes run answer
-too_many run (Err e) answer no_words many is d = by_memory run answer d.0 d.1
-too_many run (Ok reply) answer no_words many is d =
-    elim d [
-      | inl whole ↦ by_too_long run answer (whole.0 ∙ is.0) no_words many (subst (λ text. Wrote run text) is.1 whole.1)
-      | inr cut ↦ cut_off run answer reply.text.items (inr (no_words, where_told run.left _ _ (λ told more. inr (more, is.1)) many)) cut
-    ]
+module _ (run : Run) (limit : ℕ) (asks : Asks run.words limit) (only : (other : ℕ) → Asks run.words other → other ≡ limit) (answer : Status) where
+  -- a reply to bytes that is cut off
+  reply_cut : (reply : Reply) → IfSome run.left (λ bytes. IsReply limit bytes reply.text.items) → (answer ≡ status.WriteFault) × Rose run.write_faults run.write_faults_after × ((rest : List ℕ) × AppendsUpTo run.taken run.taken_after reply.text.items rest) → Causes run answer
+  reply_cut reply is cut = by_write_fault run answer limit asks only cut.0 cut.1 (front run reply.text.items (inr (limit, asks, is)) cut.2)
+
+  -- the reply to bytes that were read to the end
+  pub answered : (bytes : List ℕ) (reply : Result Reply AllocError) → LosesAll run.left run.left_after bytes → IsWithin bytes → IfOk reply (Replies limit bytes) → Delivered run reply answer → Causes run answer
+  answered bytes (Err e) all few replies d = by_memory run answer d.0 d.1
+  answered bytes (Ok reply) all few replies d =
+      elim replies [
+        | inl good ↦ elim d [
+          | inl whole ↦ by_ok run answer limit asks only (whole.0 ∙ good.0) (where_told run.left _ _ (λ told h. (subst IsWithin h.0 few, h.1)) all)
+          | inr cut ↦ reply_cut reply (where_told run.left _ _ (λ told h. inl (subst IsWithin h.0 few, inl (subst (λ b. Headline limit b reply.text.items) h.0 good.1))) all) cut
+        ]
+        | inr bad ↦ elim d [
+          | inl whole ↦ by_refusal run answer limit asks only
+              (record {
+                why = bad.0.why;
+                reason = bad.0.reason;
+                is_so = where_told run.left _ _ (λ told h. (subst IsWithin h.0 few, subst (λ b. IsSo limit b bad.0.why) h.0 bad.0.is_so)) all;
+                status_is = whole.0 ∙ bad.0.status_is;
+                wrote = subst (λ text. Wrote run text) bad.0.written whole.1;
+              })
+              (where_told run.left _ _ (λ told h. subst (λ b. IsAnswered limit b → ⊥) h.0 bad.1) all)
+          | inr cut ↦ reply_cut reply (where_told run.left _ _ (λ told h. inl (subst IsWithin h.0 few, inr (reply.status, subst (λ b. IsRefusal limit b reply.text.items reply.status) h.0 bad.0))) all) cut
+        ]
+      ]
+
+  -- the reply to bytes that were too many
+  pub too_many : (reply : Result Reply AllocError) → HasMoreThan 1048576 run.left → IfOk reply (Says status.InputTooLong too_long_line) → Delivered run reply answer → Causes run answer
+  too_many (Err e) many is d = by_memory run answer d.0 d.1
+  too_many (Ok reply) many is d =
+      elim d [
+        | inl whole ↦ by_too_long run answer limit asks only (whole.0 ∙ is.0) many (subst (λ text. Wrote run text) is.1 whole.1)
+        | inr cut ↦ reply_cut reply (where_told run.left _ _ (λ told more. inr (more, is.1)) many) cut
+      ]

@@ -1,18 +1,84 @@
--- What a reply to a formula or to a fault says of the bytes.
-use Rattle.std.proofs.Common.{ℕ, ◌≢◌, ◌∙◌, sym, ap, refl, inl, inr, List, Result, Ok, Err}
+-- What a reply to a prenex form, to a formula or to a fault says of the bytes.
+use Rattle.std.proofs.Common.{ℕ, ◌≡◌, ◌≢◌, ◌∙◌, ◌<◌, ◌≤◌, sym, ap, refl, subst, inl, inr, List, Result, Ok, Err, arith}
 use Rattle.std.specs.Prelude.{IfOk}
 use Rattle.std.specs.declared.alloc.AllocError.{AllocError}
 use Rattle.qe_form.specs.declared.names.Input.{Input}
 use Rattle.qe_form.specs.Formula.{Formula}
 use Rattle.qe_form.specs.Tree.{tree}
+use Rattle.qe_form.specs.Same.{HasNoQuantifier, Same}
+use Rattle.qe_form.specs.Preserved.{Preserves, HasDecidedCore}
+use Rattle.qe_form.proofs.Preservation.{preserves_is_preorder, cores_are_decided}
+use Rattle.qe_form.proofs.Sameness.{same_is_preorder}
 use Rattle.qe_read.specs.declared.fault.ReadFault.{ReadFault}
 use Rattle.qe_read.specs.declared.fault.ReadFault.TheVariants as read
 use Rattle.qe_read.specs.Names.{Letters}
 use Rattle.qe_read.specs.Input.{IsInput, IsFirstFaultOf, IsReadAs}
-use Rattle.qe_elim.specs.Eliminated.{outcome}
+use Rattle.qe_norm.specs.declared.prenex.Prenex.{Prenex}
+use Rattle.qe_norm.specs.Prenex.{IsPrenexOf, stands_for}
+use Rattle.qe_tree.specs.Block.{given, stopped}
+use Rattle.qe_elim.specs.Answer.{blocks_of}
 use Rattle.qe_program.specs.declared.reply.Reply.{Reply}
-use Rattle.qe_program.specs.Refusal.{fault, not_built}
-use Rattle.qe_program.specs.Reply.{RepliesToFormula, RepliesToFault, Replies}
+use Rattle.qe_program.specs.declared.status.Status.TheVariants.{TooLarge}
+use Rattle.qe_program.specs.Output.{prenex_too_large_line}
+use Rattle.qe_program.specs.Outcome.{blocks, matrix, all_names, outcome}
+use Rattle.qe_program.specs.Refusal.{Stands, IsSmall, IsLarge, HasAnswer, Refusal, fault, prenex_too_large, node, too_many_nodes, IsReason, IsSoOf, IsSo, status_of, refusal_line, IsRefusal}
+use Rattle.qe_program.specs.Reply.{Says, RepliesByFormula, RepliesByNode, RepliesByLimit, RepliesToBlocks, RepliesToPrenex, RefusesFormula, RepliesToFormula, RepliesToFault, Replies}
+
+-- ---- a prenex form
+
+module _ (limit : ℕ) (f : Formula) (names : List Letters) (whole : Formula) (keeps : Preserves f whole) (same : HasDecidedCore f → Same f whole) (small : IsSmall f) (reply : Reply) where
+  by_formula : RepliesByFormula limit (blocks f names) (matrix f names) (all_names f names) whole reply → RepliesToFormula limit f names reply
+  by_formula r =
+      let all_same : HasDecidedCore f → Same f r.answer = λ core. same_is_preorder.transitive f whole r.answer (same core) r.same in
+      inl (
+        r.says.0,
+        record {
+          answer = r.answer;
+          written = r.says.1;
+          no_quantifier = r.no_quantifier;
+          keeps = preserves_is_preorder.transitive f whole r.answer keeps (preserves_is_preorder.same whole r.answer r.same);
+          same_points = all_same;
+          same_outer = λ outer. all_same (cores_are_decided.outer f outer);
+          exact = r.is_given;
+          fits = r.fits;
+        },
+      )
+
+  by_node : RepliesByNode limit (blocks f names) (matrix f names) (all_names f names) reply → RepliesToFormula limit f names reply
+  by_node r = inr (record {
+    why = node (all_names f names) r.block r.path r.why;
+    is_so = record { small = small; all_are = refl; stops = r.stops; within = r.within };
+    says = r.says;
+    unanswered = λ a. let both : given a.answer ≡ stopped r.block r.path r.why = sym a.is_given ∙ r.stops in cc;
+  })
+
+  by_limit : RepliesByLimit limit (blocks f names) (matrix f names) reply → RepliesToFormula limit f names reply
+  by_limit r = inr (record {
+    why = too_many_nodes r.block limit;
+    is_so = record { small = small; most_is = refl; beyond = r.beyond };
+    says = r.says;
+    unanswered = λ a. r.not_within a.within;
+  })
+
+  by_blocks : RepliesToBlocks limit (blocks f names) (matrix f names) (all_names f names) whole reply → RepliesToFormula limit f names reply
+  by_blocks (inl r) = by_formula r
+  by_blocks (inr (inl r)) = by_node r
+  by_blocks (inr (inr r)) = by_limit r
+
+pub prenex_replied : (limit : ℕ) (f : Formula) (names : List Letters) (p : Prenex) (r : Result Reply AllocError) → IsSmall f → IsPrenexOf f names p → Preserves f (stands_for p) → (HasDecidedCore f → Same f (stands_for p))
+    → IfOk r (RepliesToPrenex limit p) → IfOk r (RepliesToFormula limit f names)
+prenex_replied limit f names p (Err e) small is keeps same h = tt
+prenex_replied limit f names p (Ok reply) small is keeps same h =
+    by_blocks limit f names (stands_for p) keeps same small reply
+    (subst (λ bs. RepliesToBlocks limit bs (matrix f names) (all_names f names) (stands_for p) reply) (ap blocks_of is.blocks)
+    (subst (λ m. RepliesToBlocks limit (blocks_of p.blocks.items) m (all_names f names) (stands_for p) reply) is.matrix
+    (subst (λ all. RepliesToBlocks limit (blocks_of p.blocks.items) (tree p.matrix) all (stands_for p) reply) is.names h)))
+
+pub large_replied : (limit : ℕ) (f : Formula) (names : List Letters) (r : Result Reply AllocError) → IsLarge f → IfOk r (Says TooLarge prenex_too_large_line) → IfOk r (RepliesToFormula limit f names)
+large_replied limit f names (Err e) large h = tt
+large_replied limit f names (Ok reply) large h = inr (record { why = prenex_too_large; is_so = large; says = h; unanswered = λ a. let small = a.small in omega arith })
+
+-- ---- the bytes
 
 -- where bytes stand for a formula, nothing else is read from them
 abbrev OnlyRead : List ℕ → Result Input ReadFault → Type 0
@@ -29,19 +95,29 @@ no_fault f names (read.Overflow p wide) real h = h
 no_fault f names (read.Polynomial p) real h = h
 no_fault f names read.OutOfMemory real h = real refl
 
-pub fault_replied : (bytes : List ℕ) (found : ReadFault) (r : Result Reply AllocError) → IsFirstFaultOf bytes found → OnlyRead bytes (Err found) → IfOk r (RepliesToFault found) → IfOk r (Replies bytes)
-fault_replied bytes found (Err e) first only h = tt
-fault_replied bytes found (Ok reply) first only h =
-    inr (h.1.0, record { why = fault found; reason = h.0; is_so = first; written = h.1.1 }, λ answered. no_fault answered.given answered.names found h.0 (only answered.given answered.names answered.is_input))
+pub fault_replied : (limit : ℕ) (bytes : List ℕ) (found : ReadFault) (r : Result Reply AllocError) → IsFirstFaultOf bytes found → OnlyRead bytes (Err found) → IfOk r (RepliesToFault found) → IfOk r (Replies limit bytes)
+fault_replied limit bytes found (Err e) first only h = tt
+fault_replied limit bytes found (Ok reply) first only h =
+    inr (record { why = fault found; reason = h.0; is_so = first; status_is = h.1.0; written = h.1.1 }, λ answered. no_fault answered.formula answered.names found h.0 (only answered.formula answered.names answered.is_input))
 
-pub formula_replied : (bytes : List ℕ) (input : Input) (r : Result Reply AllocError) → IsInput bytes (tree input.form) input.names → OnlyRead bytes (Ok input) → IfOk r (RepliesToFormula (tree input.form) input.names) → IfOk r (Replies bytes)
-formula_replied bytes input (Err e) is only h = tt
-formula_replied bytes input (Ok reply) is only h =
+-- a reason that is so of the formula is so of the bytes
+so_of_bytes : (limit : ℕ) (bytes : List ℕ) (f : Formula) (names : List Letters) (why : Refusal) → IsInput bytes f names → IsSoOf limit why f names → IsReason why × IsSo limit bytes why
+so_of_bytes limit bytes f names (fault found) is so = absurd so
+so_of_bytes limit bytes f names prenex_too_large is so = (tt, record { formula = f; names = names; is_input = is; holds = so })
+so_of_bytes limit bytes f names (node all block path why) is so = (tt, record { formula = f; names = names; is_input = is; holds = so })
+so_of_bytes limit bytes f names (too_many_nodes block most) is so = (tt, record { formula = f; names = names; is_input = is; holds = so })
+
+pub formula_replied : (limit : ℕ) (bytes : List ℕ) (input : Input) (r : Result Reply AllocError) → IsInput bytes (tree input.form) input.names → OnlyRead bytes (Ok input) → IfOk r (RepliesToFormula limit (tree input.form) input.names) → IfOk r (Replies limit bytes)
+formula_replied limit bytes input (Err e) is only h = tt
+formula_replied limit bytes input (Ok reply) is only h =
     elim h [
-      | inl good ↦ inl (good.0, record { given = tree input.form; names = input.names; is_input = is; is_answer = good.1 })
-      | inr bad ↦ inr (
-        bad.1.0,
-        record { why = not_built; reason = tt; is_so = record { given = tree input.form; names = input.names; is_input = is; not_built = bad.0 }; written = bad.1.1 },
-        λ answered. answered.built (ap outcome (sym (only answered.given answered.names answered.is_input).0) ∙ bad.0),
-      )
+      | inl good ↦ inl (good.0, record { read = tree input.form; names = input.names; is_input = is; is_answer = good.1 })
+      | inr bad ↦
+          let so = so_of_bytes limit bytes (tree input.form) input.names bad.why is bad.is_so in
+          inr (
+            record { why = bad.why; reason = so.0; is_so = so.1; status_is = bad.says.0; written = bad.says.1 },
+            λ answered.
+                let same = only answered.formula answered.names answered.is_input in
+                bad.unanswered (subst (λ f. HasAnswer limit f input.names) (sym same.0) (subst (λ ns. HasAnswer limit answered.formula ns) (sym same.1) answered.holds)),
+          )
     ]

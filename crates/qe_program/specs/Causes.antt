@@ -1,5 +1,5 @@
 -- When each status of the top call comes, and what was written then.
-use Rattle.std.specs.Prelude.{ℕ, ◌≡◌, ◌≢◌, ◌<◌, ◌≤◌, ◌⊎◌, List, [], length, Some, IfSome}
+use Rattle.std.specs.Prelude.{ℕ, ◌≡◌, ◌<◌, ◌≤◌, ◌⊎◌, List, [], length, Some, IfSome}
 use Rattle.std.specs.declared.option.Option.{Option}
 use Rattle.std.specs.Io.KnownBytes.{Appends}
 use Rattle.qe_program.specs.declared.status.Status.{Status}
@@ -9,11 +9,12 @@ use Rattle.qe_base.specs.Source.{HasMoreThan}
 use Rattle.qe_base.specs.Sink.{AppendsUpTo}
 use Rattle.qe_program.specs.Output.{usage_line, too_long_line}
 use Rattle.qe_program.specs.Headline.{Headline}
-use Rattle.qe_program.specs.Refusal.{IsAnswered, Refusal, IsReason, IsSo, refusal_line, IsRefusal}
+use Rattle.qe_program.specs.Asked.{Asks, AsksNothing}
+use Rattle.qe_program.specs.Refusal.{IsAnswered, Refusal, IsReason, IsSo, status_of, refusal_line, IsRefusal}
 
--- what is seen of a call: how many words there were, the bytes that the source has left and the sink took, where they tell them, and their counts of faults
+-- what is seen of a call: the words, the bytes that the source has left and the sink took, where they tell them, and their counts of faults
 pub record Run : Type 0 where
-  pub words : ℕ
+  pub words : List (List ℕ)
   pub left : Option (List ℕ)
   pub left_after : Option (List ℕ)
   pub read_faults : ℕ
@@ -35,20 +36,29 @@ WroteNothing run = run.taken_after ≡ run.taken
 abbrev pub IsWithin : List ℕ → Type 0
 IsWithin bytes = length bytes ≤ 1048576
 
--- the line of a refusal was written; where the source tells its bytes, it is so of them
-pub record WroteRefusal (run : Run) : Type 0 where
+-- the words ask for elimination with a limit of nodes of which this is so
+abbrev pub Asked : Run → (ℕ → Type 0) → Type 0
+Asked run P = (limit : ℕ) × Asks run.words limit × P limit
+
+-- the line of a refusal with this status was written; where the source tells its bytes, it is so of them
+pub record WroteRefusal (run : Run) (answer : Status) (limit : ℕ) : Type 0 where
   pub why : Refusal
   pub reason : IsReason why
-  pub is_so : IfSome run.left (λ bytes. IsWithin bytes × IsSo bytes why)
+  pub is_so : IfSome run.left (λ bytes. IsWithin bytes × IsSo limit bytes why)
+  pub status_is : answer ≡ status_of why
   pub wrote : Wrote run (refusal_line why)
 
 -- the answer to bytes, the line of their refusal, or that they are too many
-abbrev pub IsReply : List ℕ → List ℕ → Type 0
-IsReply bytes text = (IsWithin bytes × (Headline bytes text ⊎ IsRefusal bytes text)) ⊎ ((1048576 < length bytes) × (text ≡ too_long_line))
+abbrev pub IsReply : ℕ → List ℕ → List ℕ → Type 0
+IsReply limit bytes text =
+    (IsWithin bytes × (Headline limit bytes text ⊎ ((answer : Status) × IsRefusal limit bytes text answer)))
+    ⊎ ((1048576 < length bytes) × (text ≡ too_long_line))
 
 -- the text of a call in which nothing fails; where the source does not tell its bytes, any
 abbrev pub IsOutput : Run → List ℕ → Type 0
-IsOutput run text = ((run.words ≢ 0) × (text ≡ usage_line)) ⊎ ((run.words ≡ 0) × IfSome run.left (λ bytes. IsReply bytes text))
+IsOutput run text =
+    (AsksNothing run.words × (text ≡ usage_line))
+    ⊎ Asked run (λ limit. IfSome run.left (λ bytes. IsReply limit bytes text))
 
 -- the sink took the front of a text of the call
 pub record WroteFront (run : Run) : Type 0 where
@@ -57,30 +67,43 @@ pub record WroteFront (run : Run) : Type 0 where
   pub rest : List ℕ
   pub wrote : AppendsUpTo run.taken run.taken_after text rest
 
--- where there are no words, the bytes told are few enough and stand for a formula that is built, and no count of faults rose, the status is Ok, or memory was wanted
+-- where the words ask for elimination, the bytes told are few enough and stand for a formula that has an answer, and no count of faults rose, the status is Ok, or memory was wanted
 abbrev pub Completes : Run → Status → Type 0
 Completes run answer =
-    run.words ≡ 0
-    → IfSome run.left (λ bytes. IsWithin bytes → IsAnswered bytes
+    (limit : ℕ) → Asks run.words limit
+    → IfSome run.left (λ bytes. IsWithin bytes → IsAnswered limit bytes
     → (Rose run.read_faults run.read_faults_after → ⊥)
     → (Rose run.write_faults run.write_faults_after → ⊥)
     → (answer ≡ status.Ok) ⊎ (answer ≡ status.OutOfMemory))
 
--- each status comes only for its cause, and one that no field names does not come yet
+-- a refusal with this status
+abbrev pub Refused : Run → Status → Type 0
+Refused run answer = Asked run (WroteRefusal run answer)
+
+-- each status comes only for its cause
 pub record Causes (run : Run) (answer : Status) : Type 0 where
-  -- there are no words, and the input was read to its end
-  pub ok : answer ≡ status.Ok → (run.words ≡ 0) × IfSome run.left (λ bytes. IsWithin bytes × (run.left_after ≡ Some []))
-  -- there are words
-  pub usage : answer ≡ status.Usage → (run.words ≢ 0) × Wrote run usage_line
+  -- the input was read to its end
+  pub ok : answer ≡ status.Ok → Asked run (λ limit. IfSome run.left (λ bytes. IsWithin bytes × (run.left_after ≡ Some [])))
+  -- the words give no job that eliminates
+  pub usage : answer ≡ status.Usage → AsksNothing run.words × Wrote run usage_line
   -- the source's count of faults rose
-  pub read_fault : answer ≡ status.ReadFault → (run.words ≡ 0) × Rose run.read_faults run.read_faults_after × WroteNothing run
+  pub read_fault : answer ≡ status.ReadFault → Asked run (λ limit. Rose run.read_faults run.read_faults_after × WroteNothing run)
   -- more than 1,048,576 bytes were given
-  pub input_too_long : answer ≡ status.InputTooLong → (run.words ≡ 0) × HasMoreThan 1048576 run.left × Wrote run too_long_line
-  -- the bytes have a first fault, or stand for a formula that is not built
-  pub bad_input : answer ≡ status.BadInput → (run.words ≡ 0) × WroteRefusal run
+  pub input_too_long : answer ≡ status.InputTooLong → Asked run (λ limit. HasMoreThan 1048576 run.left × Wrote run too_long_line)
+  -- the bytes have a first fault
+  pub bad_input : answer ≡ status.BadInput → Refused run status.BadInput
+  -- the prenex form is too large, or a formula at a point
+  pub too_large : answer ≡ status.TooLarge → Refused run status.TooLarge
+  -- a node of a block has no variable of degree two or less, and is the first that fails
+  pub degree_excess : answer ≡ status.DegreeExcess → Refused run status.DegreeExcess
+  -- at the first node that fails a coefficient left its range
+  pub overflow : answer ≡ status.Overflow → Refused run status.Overflow
+  -- at the first node that fails there are too many monomials, or an exponent is too high
+  pub term_limit : answer ≡ status.TermLimit → Refused run status.TermLimit
+  -- a block has more nodes than the limit
+  pub node_limit : answer ≡ status.NodeLimit → Refused run status.NodeLimit
   -- the sink's count of faults rose
   pub write_fault : answer ≡ status.WriteFault → Rose run.write_faults run.write_faults_after × WroteFront run
   -- memory was wanted before anything was written
   pub out_of_memory : answer ≡ status.OutOfMemory → WroteNothing run
-  pub no_other : (answer ≢ status.TooLarge) × (answer ≢ status.DegreeExcess) × (answer ≢ status.Overflow) × (answer ≢ status.TermLimit) × (answer ≢ status.NodeLimit)
   pub complete : Completes run answer

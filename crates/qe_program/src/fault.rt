@@ -29,7 +29,7 @@ fn push_placed(out: &mut String, kind: &str, place: u32) -> Result<(), OutOfMemo
 }
 
 /// Appends an operation out of range: its first number, its sign and its second number.
-fn push_wide(out: &mut String, wide: &Wide) -> Result<(), OutOfMemory>
+pub fn push_wide(out: &mut String, wide: &Wide) -> Result<(), OutOfMemory>
     ensures { OnOk result (string_bytes out.new ≡ string_bytes out.old ++ wide_text wide.now) }
 {
     let left = wide.left.value();

@@ -2,9 +2,11 @@
 //! Knows no threads.
 #![tactic(auto)]
 
+mod asked;
 mod fault;
 mod reply;
 mod status;
+mod stop;
 #[cfg(test)]
 mod tests;
 mod top;

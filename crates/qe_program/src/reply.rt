@@ -2,16 +2,30 @@
 
 ghost use Rattle.std.specs.Prelude.{◌≡◌, ◌≤◌, length, IfOk};
 ghost use Rattle.qe_form.specs.Tree.{tree};
-ghost use Rattle.qe_program.specs.Reply.{Says, RepliesToFormula, RepliesToFault, Replies, Delivers};
-ghost use Rattle.qe_program.specs.Output.{line, usage_line, too_long_line, not_built_line};
+ghost use Rattle.qe_form.specs.Measures.{count};
+ghost use Rattle.qe_form.specs.Plain.{IsPlain};
+ghost use Rattle.qe_form.specs.Numbered.{IsWellNumbered};
+ghost use Rattle.qe_norm.specs.Prenex as prenex_form;
+ghost use Rattle.qe_node.specs.declared.stop.NodeStop.{NodeStop};
+ghost use Rattle.qe_elim.specs.Search.{steps_of};
+ghost use Rattle.qe_program.specs.Reply.{Says, RepliesToPrenex, RepliesToFormula, RepliesToFault, Replies, Delivers};
+ghost use Rattle.qe_program.specs.Refusal.{limit_status, stop_status};
+ghost use Rattle.qe_program.specs.Output.{line, usage_line, too_long_line, prenex_too_large_line, node_line, node_limit_line};
 
 use crate::fault::fault_line;
 use crate::status::Status;
+use crate::stop::{node_limit_line, node_line};
 use qe_base::{OutOfMemory, Sink, write_all};
-use qe_elim::{LinearStop, eliminate_linear};
+use qe_elim::{ElimStop, NodeStop, Step, eliminate_alone};
+use qe_form::Names;
+use qe_node::PolyLimit;
+use qe_norm::{NormStop, Prenex, normal};
 use qe_print::form_text;
 use qe_read::{Input, ReadFault, read};
 use std::alloc::Global;
+
+/// More names than a text of the length that is read can have.
+const MANY_NAMES: u32 = 1 << 31;
 
 /// A status, and the text that is written for it.
 #[derive(Drop)]
@@ -53,13 +67,59 @@ pub fn too_long(alloc: Global) -> Result<Reply, OutOfMemory>
     })
 }
 
-/// The reply to a formula that is not eliminated so far.
-fn not_built(alloc: Global) -> Result<Reply, OutOfMemory>
-    ensures { IfOk result (Says Status.BadInput not_built_line) }
+/// The reply to a formula whose prenex form is too large.
+fn prenex_too_large(alloc: Global) -> Result<Reply, OutOfMemory>
+    ensures { IfOk result (Says Status.TooLarge prenex_too_large_line) }
 {
     Ok(Reply {
-        status: Status::BadInput,
-        text: line(alloc, "bad input: not built")?,
+        status: Status::TooLarge,
+        text: line(alloc, "too large: prenex form")?,
+    })
+}
+
+fn limit_status(limit: &PolyLimit) -> Status
+    ensures { result ≡ limit_status limit.now }
+{
+    match limit {
+        PolyLimit::Coefficient(_) => Status::Overflow,
+        PolyLimit::Exponent | PolyLimit::Monomials => Status::TermLimit,
+    }
+}
+
+/// The status of a node that fails.
+fn stop_status(stop: &NodeStop) -> Status
+    ensures { result ≡ stop_status stop.now }
+{
+    match stop {
+        NodeStop::DegreeExcess => Status::DegreeExcess,
+        NodeStop::Limit { limit, .. } => limit_status(limit),
+        NodeStop::TooLarge { .. } => Status::TooLarge,
+    }
+}
+
+/// The reply to a formula in whose elimination a node fails.
+fn node_fails(
+    alloc: Global,
+    block: u32,
+    path: &[Step],
+    stop: &NodeStop,
+    names: &Names,
+) -> Result<Reply, OutOfMemory>
+    ensures { IfOk result (Says (stop_status stop.now) (node_line names.now block (steps_of path.now) stop.now)) }
+{
+    Ok(Reply {
+        status: stop_status(stop),
+        text: node_line(alloc, block, path, stop, names)?,
+    })
+}
+
+/// The reply to a formula in whose elimination a block has more nodes than the limit.
+fn too_many_nodes(alloc: Global, block: u32, limit: u32) -> Result<Reply, OutOfMemory>
+    ensures { IfOk result (Says Status.NodeLimit (node_limit_line block limit)) }
+{
+    Ok(Reply {
+        status: Status::NodeLimit,
+        text: node_limit_line(alloc, block, limit)?,
     })
 }
 
@@ -73,31 +133,55 @@ fn refusal(alloc: Global, fault: &ReadFault) -> Result<Reply, OutOfMemory>
     })
 }
 
-/// The reply to a formula with its names.
-fn answer_to(alloc: Global, input: &Input) -> Result<Reply, OutOfMemory>
-    ensures { IfOk result (RepliesToFormula (tree input.now.form) input.now.names) }
+/// The reply to a formula in prenex form.
+fn reply_to_prenex(alloc: Global, prenex: &Prenex, limit: u32) -> Result<Reply, OutOfMemory>
+    requires numbered { prenex_form.IsWellNumbered prenex.now }
+    requires plain { IsPlain (tree prenex.now.matrix) }
+    requires small { count (tree prenex.now.matrix) ≤ 65536 }
+    requires some { 1 ≤ limit }
+    ensures { IfOk result (RepliesToPrenex limit prenex.now) }
 {
-    match eliminate_linear(alloc, &input.form) {
-        Ok(answer) => {
-            let mut text = form_text(alloc, &answer, &input.names)?;
+    match eliminate_alone(alloc, prenex, limit) {
+        Ok(outcome) => {
+            let mut text = form_text(alloc, &outcome.form, &prenex.names)?;
             text.push(b'\n')?;
             Ok(Reply {
                 status: Status::Ok,
                 text,
             })
         }
-        Err(LinearStop::NotBuilt) => not_built(alloc),
-        Err(LinearStop::OutOfMemory) => Err(OutOfMemory),
+        Err(ElimStop::Node { block, path, stop }) => {
+            node_fails(alloc, block, &path, &stop, &prenex.names)
+        }
+        Err(ElimStop::NodeLimit { block, limit }) => too_many_nodes(alloc, block, limit),
+        Err(ElimStop::OutOfMemory) => Err(OutOfMemory),
+    }
+}
+
+/// The reply to a formula with its names.
+fn reply_to_input(alloc: Global, input: Input, limit: u32) -> Result<Reply, OutOfMemory>
+    requires numbered { IsWellNumbered (tree input.form) input.names }
+    requires some { 1 ≤ limit }
+    ensures { IfOk result (RepliesToFormula limit (tree input.form) input.names) }
+{
+    if input.names.len() >= MANY_NAMES {
+        return Err(OutOfMemory);
+    }
+    match normal(alloc, input) {
+        Ok(prenex) => reply_to_prenex(alloc, &prenex, limit),
+        Err(NormStop::TooLarge(_)) => prenex_too_large(alloc),
+        Err(NormStop::OutOfMemory) => Err(OutOfMemory),
     }
 }
 
 /// The reply to the bytes of an input.
-pub fn reply_to(alloc: Global, bytes: &[u8]) -> Result<Reply, OutOfMemory>
-    requires { length bytes.now ≤ 1048576 }
-    ensures { IfOk result (Replies bytes.now) }
+pub fn reply_to(alloc: Global, bytes: &[u8], limit: u32) -> Result<Reply, OutOfMemory>
+    requires length { length bytes.now ≤ 1048576 }
+    requires some { 1 ≤ limit }
+    ensures { IfOk result (Replies limit bytes.now) }
 {
     match read(alloc, bytes) {
-        Ok(input) => answer_to(alloc, &input),
+        Ok(input) => reply_to_input(alloc, input, limit),
         Err(fault) => refusal(alloc, &fault),
     }
 }

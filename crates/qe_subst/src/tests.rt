@@ -222,120 +222,155 @@ fn atom_text(
     }
 }
 
-// The coefficients of x^2, x and 1, the relation, and what stands for the atom at a - a root without a square root - and just above it.
+/// The root, or what is just above it.
+fn point_of(alloc: Global, parts: [Linear; 4], plus: bool) -> Result<Point, PolyStop> {
+    let root = root(alloc, parts)?;
+    if plus {
+        Ok(Point::RootPlus(root))
+    } else {
+        Ok(Point::Root(root))
+    }
+}
+
+/// What stands for an atom at a root, or just above it.
+fn root_text(
+    alloc: Global,
+    coefficients: [Linear; 3],
+    bits: u8,
+    parts: [Linear; 4],
+    plus: bool,
+) -> Result<String, PolyStop> {
+    let point = point_of(alloc, parts, plus)?;
+    let poly = quadratic(alloc, coefficients)?;
+    Ok(atom_text(alloc, poly, bits, &point, None)?)
+}
+
+/// What stands for an atom below all numbers.
+fn below_text(alloc: Global, coefficients: [Linear; 3], bits: u8) -> Result<String, PolyStop> {
+    let poly = quadratic(alloc, coefficients)?;
+    Ok(atom_text(alloc, poly, bits, &Point::MinusInf, None)?)
+}
+
+/// What stands for an atom at 0, or just above it, as the root of 2*b*x.
+fn own_text(
+    alloc: Global,
+    coefficients: [Linear; 3],
+    bits: u8,
+    plus: bool,
+) -> Result<String, PolyStop> {
+    let own = quadratic(alloc, [ZERO, [0, 2, 0, 0], ZERO])?;
+    let point = point_of(alloc, [ZERO, ZERO, ZERO, [0, 2, 0, 0]], plus)?;
+    let poly = quadratic(alloc, coefficients)?;
+    Ok(atom_text(alloc, poly, bits, &point, Some(&own))?)
+}
+
+// At a, a root without a square root, and just above it: the coefficients of x^2, x and 1, the relation, and what stands for the atom.
 #[test]
 fn substitutes_a_quotient(rt: HostRuntime) -> Result<(), Fail> {
     let alloc = rt.alloc();
+    let parts = [A, ZERO, ZERO, ONE];
     let minus_b = [0, -1, 0, 0];
-    let at = Point::Root(root(alloc, [A, ZERO, ZERO, ONE])?);
-    let above = Point::RootPlus(root(alloc, [A, ZERO, ZERO, ONE])?);
-    for (coefficients, bits, want_at, want_above) in [
+    for (coefficients, bits, plus, want) in [
         // x - b
+        ([ZERO, ONE, minus_b], LESS, false, "a - b < 0"),
+        ([ZERO, ONE, minus_b], AT_MOST, false, "a - b <= 0"),
+        ([ZERO, ONE, minus_b], EQUAL, false, "a - b = 0"),
+        ([ZERO, ONE, minus_b], NOT_EQUAL, false, "a - b <> 0"),
+        ([ZERO, ONE, minus_b], AT_LEAST, false, "a - b >= 0"),
+        ([ZERO, ONE, minus_b], MORE, false, "a - b > 0"),
         (
             [ZERO, ONE, minus_b],
             LESS,
-            "a - b < 0",
+            true,
             "[a - b < 0 or [a - b = 0 and 1 < 0]]",
         ),
         (
             [ZERO, ONE, minus_b],
             AT_MOST,
-            "a - b <= 0",
+            true,
             "[a - b < 0 or [a - b = 0 and 1 <= 0]]",
         ),
-        (
-            [ZERO, ONE, minus_b],
-            EQUAL,
-            "a - b = 0",
-            "[1 = 0 and -b = 0]",
-        ),
-        (
-            [ZERO, ONE, minus_b],
-            NOT_EQUAL,
-            "a - b <> 0",
-            "[1 <> 0 or -b <> 0]",
-        ),
+        ([ZERO, ONE, minus_b], EQUAL, true, "[1 = 0 and -b = 0]"),
+        ([ZERO, ONE, minus_b], NOT_EQUAL, true, "[1 <> 0 or -b <> 0]"),
         (
             [ZERO, ONE, minus_b],
             AT_LEAST,
-            "a - b >= 0",
+            true,
             "[a - b > 0 or [a - b = 0 and 1 >= 0]]",
         ),
         (
             [ZERO, ONE, minus_b],
             MORE,
-            "a - b > 0",
+            true,
             "[a - b > 0 or [a - b = 0 and 1 > 0]]",
         ),
         // b*x^2 + c: its slopes are 2*b*x and 2*b
+        ([B, ZERO, C], LESS, false, "a^2*b + c < 0"),
+        ([B, ZERO, C], EQUAL, true, "[b = 0 and 0 = 0 and c = 0]"),
+        (
+            [B, ZERO, C],
+            NOT_EQUAL,
+            true,
+            "[b <> 0 or 0 <> 0 or c <> 0]",
+        ),
         (
             [B, ZERO, C],
             LESS,
-            "a^2*b + c < 0",
+            true,
             "[a^2*b + c < 0 or [a^2*b + c = 0 and [2*a*b < 0 or [2*a*b = 0 and 2*b < 0]]]]",
         ),
         (
             [B, ZERO, C],
             AT_LEAST,
-            "a^2*b + c >= 0",
+            true,
             "[a^2*b + c > 0 or [a^2*b + c = 0 and [2*a*b > 0 or [2*a*b = 0 and 2*b >= 0]]]]",
         ),
-        (
-            [B, ZERO, C],
-            EQUAL,
-            "a^2*b + c = 0",
-            "[b = 0 and 0 = 0 and c = 0]",
-        ),
-        (
-            [B, ZERO, C],
-            NOT_EQUAL,
-            "a^2*b + c <> 0",
-            "[b <> 0 or 0 <> 0 or c <> 0]",
-        ),
         // an atom without x stays
-        ([ZERO, ZERO, B], MORE, "b > 0", "b > 0"),
+        ([ZERO, ZERO, B], MORE, false, "b > 0"),
+        ([ZERO, ZERO, B], MORE, true, "b > 0"),
     ] {
-        let at_text = atom_text(alloc, quadratic(alloc, coefficients)?, bits, &at, None)?;
-        assert_eq!(rt; at_text.as_str(), want_at);
-        let above_text = atom_text(alloc, quadratic(alloc, coefficients)?, bits, &above, None)?;
-        assert_eq!(rt; above_text.as_str(), want_above);
+        let text = root_text(alloc, coefficients, bits, parts, plus)?;
+        assert_eq!(rt; text.as_str(), want);
     }
     Ok(())
 }
 
-// The same at b + sqrt(c), where the sign form of A + B*sqrt(c) is needed.
+// The same at b + sqrt(c), where the form for the sign of A + B*sqrt(c) is needed.
 #[test]
 fn substitutes_a_square_root(rt: HostRuntime) -> Result<(), Fail> {
     let alloc = rt.alloc();
+    let parts = [B, ONE, C, ONE];
     let minus_a = [-1, 0, 0, 0];
-    let at = Point::Root(root(alloc, [B, ONE, C, ONE])?);
-    let above = Point::RootPlus(root(alloc, [B, ONE, C, ONE])?);
-    for (coefficients, bits, want_at, want_above) in [
+    for (coefficients, bits, plus, want) in [
         // x - a: A is b - a, B is 1
         (
             [ZERO, ONE, minus_a],
             EQUAL,
+            false,
             "[-a + b <= 0 and a^2 - 2*a*b + b^2 - c = 0]",
-            "[1 = 0 and -a = 0]",
         ),
         (
             [ZERO, ONE, minus_a],
             AT_MOST,
+            false,
             "[[-a + b <= 0 and a^2 - 2*a*b + b^2 - c >= 0] or [1 <= 0 and a^2 - 2*a*b + b^2 - c <= 0]]",
+        ),
+        (
+            [ZERO, ONE, minus_a],
+            AT_MOST,
+            true,
             "[[[-a + b < 0 and a^2 - 2*a*b + b^2 - c > 0] or [1 <= 0 and [-a + b < 0 or a^2 - 2*a*b + b^2 - c < 0]]] or [[-a + b <= 0 and a^2 - 2*a*b + b^2 - c = 0] and 1 <= 0]]",
         ),
         // x^2 - a: A is b^2 + c - a, B is 2*b
         (
             [ONE, ZERO, minus_a],
             NOT_EQUAL,
+            false,
             "[-2*a*b + 2*b^3 + 2*b*c > 0 or a^2 - 2*a*b^2 - 2*a*c + b^4 - 2*b^2*c + c^2 <> 0]",
-            "[1 <> 0 or 0 <> 0 or -a <> 0]",
         ),
     ] {
-        let at_text = atom_text(alloc, quadratic(alloc, coefficients)?, bits, &at, None)?;
-        assert_eq!(rt; at_text.as_str(), want_at);
-        let above_text = atom_text(alloc, quadratic(alloc, coefficients)?, bits, &above, None)?;
-        assert_eq!(rt; above_text.as_str(), want_above);
+        let text = root_text(alloc, coefficients, bits, parts, plus)?;
+        assert_eq!(rt; text.as_str(), want);
     }
     Ok(())
 }
@@ -375,87 +410,51 @@ fn substitutes_minus_infinity(rt: HostRuntime) -> Result<(), Fail> {
         ),
         ([ZERO, ZERO, C], EQUAL, "c = 0"),
     ] {
-        let text = atom_text(
-            alloc,
-            quadratic(alloc, coefficients)?,
-            bits,
-            &Point::MinusInf,
-            None,
-        )?;
+        let text = below_text(alloc, coefficients, bits)?;
         assert_eq!(rt; text.as_str(), want);
     }
     Ok(())
 }
 
-// The point is 0, and its own polynomial 2*b*x. The coefficients of x^2, x and 1, the relation, and what stands at 0 and just above.
+// The point is 0, as the root of 2*b*x. The coefficients of x^2, x and 1, the relation, and what stands for the atom.
 #[test]
 fn knows_the_own_polynomial(rt: HostRuntime) -> Result<(), Fail> {
     let alloc = rt.alloc();
     let twice_b = [0, 2, 0, 0];
-    let own = quadratic(alloc, [ZERO, twice_b, ZERO])?;
-    let at = Point::Root(root(alloc, [ZERO, ZERO, ZERO, twice_b])?);
-    let above = Point::RootPlus(root(alloc, [ZERO, ZERO, ZERO, twice_b])?);
-    for (coefficients, bits, want_at, want_above) in [
+    for (coefficients, bits, plus, want) in [
+        ([ZERO, twice_b, ZERO], LESS, false, "false"),
+        ([ZERO, twice_b, ZERO], AT_MOST, false, "true"),
+        ([ZERO, twice_b, ZERO], EQUAL, false, "true"),
+        ([ZERO, twice_b, ZERO], NOT_EQUAL, false, "false"),
         (
             [ZERO, twice_b, ZERO],
             LESS,
-            "false",
+            true,
             "[false or [true and 2*b < 0]]",
         ),
         (
             [ZERO, twice_b, ZERO],
-            AT_MOST,
-            "true",
-            "[false or [true and 2*b <= 0]]",
-        ),
-        ([ZERO, twice_b, ZERO], EQUAL, "true", "[2*b = 0 and 0 = 0]"),
-        (
-            [ZERO, twice_b, ZERO],
-            NOT_EQUAL,
-            "false",
-            "[2*b <> 0 or 0 <> 0]",
-        ),
-        (
-            [ZERO, twice_b, ZERO],
             AT_LEAST,
-            "true",
+            true,
             "[false or [true and 2*b >= 0]]",
         ),
-        (
-            [ZERO, twice_b, ZERO],
-            MORE,
-            "false",
-            "[false or [true and 2*b > 0]]",
-        ),
-        // it is the slope of b*x^2 + c, where (2*b)^2*c is the value at 0 times the square of the divisor
+        ([ZERO, twice_b, ZERO], EQUAL, true, "[2*b = 0 and 0 = 0]"),
+        // it is the slope of b*x^2 + c, whose value at 0 is (2*b)^2*c over the square of the divisor
+        ([B, ZERO, C], LESS, false, "4*b^2*c < 0"),
         (
             [B, ZERO, C],
             LESS,
-            "4*b^2*c < 0",
+            true,
             "[4*b^2*c < 0 or [4*b^2*c = 0 and [false or [true and 2*b < 0]]]]",
         ),
     ] {
-        let at_text = atom_text(
-            alloc,
-            quadratic(alloc, coefficients)?,
-            bits,
-            &at,
-            Some(&own),
-        )?;
-        assert_eq!(rt; at_text.as_str(), want_at);
-        let above_text = atom_text(
-            alloc,
-            quadratic(alloc, coefficients)?,
-            bits,
-            &above,
-            Some(&own),
-        )?;
-        assert_eq!(rt; above_text.as_str(), want_above);
+        let text = own_text(alloc, coefficients, bits, plus)?;
+        assert_eq!(rt; text.as_str(), want);
     }
     Ok(())
 }
 
-// The coefficients of x^2, x and 1, the relation, then p, q, r and s, and the first limit at the root and just above it.
+// The coefficients of x^2, x and 1, the relation, then p, q, r and s, and the first limit at the root.
 #[test]
 fn tells_the_first_limit(rt: HostRuntime) -> Result<(), Fail> {
     let alloc = rt.alloc();
@@ -482,23 +481,25 @@ fn tells_the_first_limit(rt: HostRuntime) -> Result<(), Fail> {
             [most, two, A, ONE],
             "sign at 0: 170141183460469231731687303715884105727 * 170141183460469231731687303715884105727",
         ),
-        // without a limit
-        ([ZERO, ONE, ZERO], LESS, [A, ZERO, ZERO, ONE], "a < 0"),
     ] {
-        let point = Point::Root(root(alloc, parts)?);
-        let text = atom_text(alloc, quadratic(alloc, coefficients)?, bits, &point, None)?;
+        let text = root_text(alloc, coefficients, bits, parts, false)?;
         assert_eq!(rt; text.as_str(), want);
     }
     Ok(())
 }
 
-// M*a*x^2 + x + 1 just above its own root: no operation but that of the slope.
+/// What stands for M*a*x^2 + x + 1 < 0 just above a root of this polynomial.
+fn slope_text(alloc: Global) -> Result<String, PolyStop> {
+    let own = quadratic(alloc, [[MOST, 0, 0, 0], ONE, ONE])?;
+    let above = point_of(alloc, [[0, 0, 0, -1], ZERO, ZERO, ONE], true)?;
+    let poly = own.copy(alloc)?;
+    Ok(atom_text(alloc, poly, LESS, &above, Some(&own))?)
+}
+
+// No operation but that of the slope is needed.
 #[test]
 fn tells_the_limit_of_a_slope(rt: HostRuntime) -> Result<(), Fail> {
-    let alloc = rt.alloc();
-    let own = quadratic(alloc, [[MOST, 0, 0, 0], ONE, ONE])?;
-    let above = Point::RootPlus(root(alloc, [[0, 0, 0, -1], ZERO, ZERO, ONE])?);
-    let text = atom_text(alloc, own.copy(alloc)?, LESS, &above, Some(&own))?;
+    let text = slope_text(rt.alloc())?;
     assert_eq!(rt;
         text.as_str(),
         "slope at 0: 170141183460469231731687303715884105727 * 2"
@@ -520,21 +521,31 @@ fn three(alloc: Global, first: Form, second: Form) -> Result<Form, OutOfMemory>
     Ok(Form::And(parts))
 }
 
-/// What stands for two atoms with a constant between them, as text.
-fn atoms_text(alloc: Global, atoms: (Atom, Atom), point: &Point) -> Result<String, OutOfMemory> {
-    let (first, second) = atoms;
-    let first_bits = first.signs.bits();
-    let second_bits = second.signs.bits();
-    let is_first_low = first.poly.degree_in(X) <= 2;
-    let is_second_low = second.poly.degree_in(X) <= 2;
-    if is_first_low
-        && is_second_low
-        && 0 < first_bits
-        && first_bits < 7
-        && 0 < second_bits
-        && second_bits < 7
-    {
-        let form = three(alloc, Form::Atom(first), Form::Atom(second))?;
+/// What stands for an atom without x and an atom 2*x = 0 at M, with a constant between them.
+fn numbered_text(alloc: Global) -> Result<String, PolyStop> {
+    let point = point_of(alloc, [[0, 0, 0, MOST], ZERO, ZERO, ONE], false)?;
+    let first = quadratic(alloc, [ZERO, ZERO, B])?;
+    let second = quadratic(alloc, [ZERO, [0, 0, 0, 2], ZERO])?;
+    Ok(two_text(alloc, first, second, &point)?)
+}
+
+fn two_text(
+    alloc: Global,
+    first: Poly,
+    second: Poly,
+    point: &Point,
+) -> Result<String, OutOfMemory> {
+    let is_low = first.degree_in(X) <= 2 && second.degree_in(X) <= 2;
+    let less = Form::Atom(Atom {
+        poly: first,
+        signs: Signs::of(true, false, false),
+    });
+    let equal = Form::Atom(Atom {
+        poly: second,
+        signs: Signs::of(false, true, false),
+    });
+    let form = three(alloc, less, equal)?;
+    if is_low {
         outcome_text(alloc, substitute(alloc, &form, X, point, None))
     } else {
         Ok(String::new(alloc))
@@ -544,17 +555,7 @@ fn atoms_text(alloc: Global, atoms: (Atom, Atom), point: &Point) -> Result<Strin
 // Only atoms are numbered, and the first with a limit is told.
 #[test]
 fn numbers_the_atoms(rt: HostRuntime) -> Result<(), Fail> {
-    let alloc = rt.alloc();
-    let point = Point::Root(root(alloc, [[0, 0, 0, MOST], ZERO, ZERO, ONE])?);
-    let first = Atom {
-        poly: quadratic(alloc, [ZERO, ZERO, B])?,
-        signs: signs_of(LESS),
-    };
-    let second = Atom {
-        poly: quadratic(alloc, [ZERO, [0, 0, 0, 2], ZERO])?,
-        signs: signs_of(EQUAL),
-    };
-    let text = atoms_text(alloc, (first, second), &point)?;
+    let text = numbered_text(rt.alloc())?;
     assert_eq!(rt;
         text.as_str(),
         "root at 1: 2 * 170141183460469231731687303715884105727"
@@ -586,15 +587,23 @@ fn grown_often(alloc: Global, form: Form) -> Result<Form, OutOfMemory>
     grown(alloc, thrice)
 }
 
-// From 1 constant to 2^17 - 1, and to 2^13 - 1.
-#[test]
-fn refuses_what_is_too_large(rt: HostRuntime) -> Result<(), Fail> {
-    let alloc = rt.alloc();
-    let small = grown_often(alloc, grown_often(alloc, grown_often(alloc, Form::True)?)?)?;
+/// The number of atoms of what stands for this many constants, which is 8,191, or the stop for sixteen times as many.
+fn counted(alloc: Global) -> Result<(u32, Option<SubstStop>), OutOfMemory> {
+    let some = grown_often(alloc, Form::True)?;
+    let more = grown_often(alloc, some)?;
+    let small = grown_often(alloc, more)?;
     let made = substitute(alloc, &small, X, &Point::MinusInf, None);
-    assert_eq!(rt; made.map_or(0, |form| form.atom_count()), 8191);
+    let count = made.map_or(0, |form| form.atom_count());
     let large = grown_often(alloc, small)?;
     let stop = substitute(alloc, &large, X, &Point::MinusInf, None).err();
+    Ok((count, stop))
+}
+
+// 2^13 - 1 constants are few enough, and 2^17 - 1 are not.
+#[test]
+fn refuses_what_is_too_large(rt: HostRuntime) -> Result<(), Fail> {
+    let (count, stop) = counted(rt.alloc())?;
+    assert_eq!(rt; count, 8191);
     assert_eq!(rt; stop, Some(SubstStop::TooLarge));
     Ok(())
 }

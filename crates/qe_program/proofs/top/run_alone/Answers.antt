@@ -1,17 +1,43 @@
-use Rattle.std.proofs.Common.{◌≡◌, ◌≤◌, length, Err, arith}
+use Rattle.std.proofs.Common.{◌≡◌, ◌≤◌, length, subst, Ok, Some, None, arith}
+use Rattle.std.specs.Prelude.{map}
+use Rattle.std.specs.String.{string_bytes}
 use Rattle.std.proofs.lemmas.Grind.{common_steps}
-use Rattle.qe_base.specs.declared.whole.ReadStop.TheVariants.{TooLong}
-use Rattle.qe_program.proofs.Caused.{answered, too_many}
+use Rattle.qe_program.specs.Asked.{IsAsked}
+use Rattle.qe_program.proofs.Caused.{answered, refused_words}
 use Rattle.qe_program.proofs.top.run_alone.Goals as goal
+
+pub returns-in-Ok-None-clause-causes : goal.returns-in-Ok-None-clause-causes
+returns-in-Ok-None-clause-causes g c =
+    let found : c.limit_asked.result ≡ Ok None = cc in
+    refused_words _ c.usage.result _ (subst (IsAsked (map string_bytes c.args.words.now)) found c.limit_asked.ensures) c.usage.ensures c.deliver.ensures
 
 pub returns-in-Ok-clause-causes : goal.returns-in-Ok-clause-causes
 returns-in-Ok-clause-causes g c =
-    let no_words : length c.args.words.now ≡ 0 = grind (arith, common_steps) in
+    let found : c.limit_asked.result ≡ Ok (Some c.in-Ok-Some.limit) = cc in
+    let asked = subst (IsAsked (map string_bytes c.args.words.now)) found c.limit_asked.ensures in
     let few : length c.deref.result.now ≤ 1048576 = grind (arith, common_steps) in
-    answered _ c.deref.result.now c.reply_to.result _ no_words (rw c.deref.ensures.value c.in-Ok.ensures.whole) few c.reply_to.ensures c.deliver-in-Ok.ensures
+    answered _ c.in-Ok-Some.limit asked.0 asked.1 _ c.deref.result.now c.reply_to.result (rw c.deref.ensures.value c.in-Ok.ensures.whole) few c.reply_to.ensures c.deliver-in-Ok.ensures
 
-pub returns-in-Err-TooLong-clause-causes : goal.returns-in-Err-TooLong-clause-causes
-returns-in-Err-TooLong-clause-causes g c =
-    let no_words : length c.args.words.now ≡ 0 = grind (arith, common_steps) in
-    let stopped : c.read_all.result ≡ Err TooLong = cc in
-    too_many _ c.too_long.result _ no_words (c.read_all.ensures.too_long stopped) c.too_long.ensures c.deliver-in-Err-TooLong.ensures
+pub returns-in-Ok-clause-source_kept : goal.returns-in-Ok-clause-source_kept
+returns-in-Ok-clause-source_kept g c = λ nothing.
+    let found : c.limit_asked.result ≡ Ok (Some c.in-Ok-Some.limit) = cc in
+    let asked = subst (IsAsked (map string_bytes c.args.words.now)) found c.limit_asked.ensures in
+    absurd (nothing c.in-Ok-Some.limit asked.0)
+
+pub returns-in-Err-TooLong-clause-source_kept : goal.returns-in-Err-TooLong-clause-source_kept
+returns-in-Err-TooLong-clause-source_kept g c = λ nothing.
+    let found : c.limit_asked.result ≡ Ok (Some c.in-Ok-Some.limit) = cc in
+    let asked = subst (IsAsked (map string_bytes c.args.words.now)) found c.limit_asked.ensures in
+    absurd (nothing c.in-Ok-Some.limit asked.0)
+
+pub returns-in-Err-Fault-clause-source_kept : goal.returns-in-Err-Fault-clause-source_kept
+returns-in-Err-Fault-clause-source_kept g c = λ nothing.
+    let found : c.limit_asked.result ≡ Ok (Some c.in-Ok-Some.limit) = cc in
+    let asked = subst (IsAsked (map string_bytes c.args.words.now)) found c.limit_asked.ensures in
+    absurd (nothing c.in-Ok-Some.limit asked.0)
+
+pub returns-in-Err-OutOfMemory-clause-source_kept : goal.returns-in-Err-OutOfMemory-clause-source_kept
+returns-in-Err-OutOfMemory-clause-source_kept g c = λ nothing.
+    let found : c.limit_asked.result ≡ Ok (Some c.in-Ok-Some.limit) = cc in
+    let asked = subst (IsAsked (map string_bytes c.args.words.now)) found c.limit_asked.ensures in
+    absurd (nothing c.in-Ok-Some.limit asked.0)

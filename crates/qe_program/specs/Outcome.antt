@@ -1,0 +1,40 @@
+-- What elimination gives for a formula with names: that of its prenex form.
+use Rattle.std.specs.Prelude.{ℕ, ◌≡◌, ◌≤◌, List, map, Result, Ok, Err}
+use Rattle.qe_form.specs.Formula.{Formula}
+use Rattle.qe_norm.specs.Blocks.{prefix, grouped}
+use Rattle.qe_norm.specs.Blocks as prenex
+use Rattle.qe_norm.specs.Prenex.{walk, size}
+use Rattle.qe_tree.specs.Block.{Block, Eliminated, eliminated, EachBlock, AtBlock, Fits, IsWithin, IsBeyond}
+use Rattle.qe_node.specs.declared.stop.NodeStop.{NodeStop}
+use Rattle.qe_node.specs.Successors.{expansion}
+use Rattle.qe_elim.specs.Answer.{blocks_of}
+use Rattle.qe_read.specs.Names.{Letters}
+
+-- the blocks of the prenex form, its matrix, and the names of its variables
+abbrev pub blocks : Formula → List Letters → List Block
+blocks f names = blocks_of (grouped (prefix (walk f names).0))
+
+abbrev pub matrix : Formula → List Letters → Formula
+matrix f names = prenex.matrix (walk f names).0
+
+abbrev pub all_names : Formula → List Letters → List Letters
+all_names f names = (walk f names).1.names
+
+-- the formula without quantifiers, or the block that stops, the steps to its first node that fails, and why
+abbrev pub outcome : Formula → List Letters → Eliminated NodeStop
+outcome f names = eliminated expansion (blocks f names) (matrix f names)
+
+-- each block's tree has a leaf that is True, or no more distinct nodes than the limit
+abbrev pub EachFits : ℕ → Formula → List Letters → Type 0
+EachFits limit f names = EachBlock expansion (Fits expansion limit) 1 (blocks f names) (matrix f names)
+
+-- each block's tree has no more distinct nodes than the limit
+abbrev pub EachIsWithin : ℕ → Formula → List Letters → Type 0
+EachIsWithin limit f names = EachBlock expansion (IsWithin expansion limit) 1 (blocks f names) (matrix f names)
+
+-- the blocks further in than this one give its matrix, and its tree has no more distinct nodes than the limit, or more
+abbrev pub BlockIsWithin : ℕ → Formula → List Letters → ℕ → Type 0
+BlockIsWithin limit f names k = AtBlock expansion (IsWithin expansion limit) k 1 (blocks f names) (matrix f names)
+
+abbrev pub BlockIsBeyond : ℕ → Formula → List Letters → ℕ → Type 0
+BlockIsBeyond limit f names k = AtBlock expansion (IsBeyond expansion limit) k 1 (blocks f names) (matrix f names)

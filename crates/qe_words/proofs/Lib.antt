@@ -1,0 +1,6 @@
+pub mod Numbers
+pub mod Fronts
+pub mod Filled
+pub mod Told
+pub mod Taken
+pub mod Jobs
