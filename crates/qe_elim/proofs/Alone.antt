@@ -1,5 +1,5 @@
 -- From one block to all: where a block stops, so does the whole; and what is given means the same as the prenex form.
-use Rattle.std.proofs.Common.{ℕ, zero, suc, ◌≡◌, ◌≢◌, ◌∙◌, sym, ap, refl, subst, ◌+◌, ◌^◌, ◌<◌, ◌≤◌, get_or, inl, inr, ◌⊎◌, true, false, nat_eq, List, [], ◌∷◌, ◌++◌, map, drop, length, Result, Ok, Err, arith}
+use Rattle.std.proofs.Common.{ℕ, zero, suc, ◌≡◌, ◌≢◌, ◌∙◌, sym, ap, refl, subst, ◌+◌, ◌^◌, ◌<◌, get_or, inl, inr, false, nat_eq, List, [], ◌∷◌, ◌++◌, map, drop, length, Result, Ok, Err, arith}
 use Rattle.std.specs.Prelude.{IfOk, AllPairs}
 use Rattle.std.proofs.Math.Seq.{drop-cons}
 use Rattle.std.proofs.lemmas.List.{drop-map}

@@ -1,5 +1,5 @@
 -- The successors that are given are those of the node's expansion, with the variable that is eliminated.
-use Rattle.std.proofs.Common.{ℕ, ◌≡◌, ◌∙◌, sym, ap, refl, subst, List, [], ◌∷◌, map, Option, Some, None, Result, Ok, Err}
+use Rattle.std.proofs.Common.{ℕ, ◌≡◌, ◌∙◌, sym, ap, refl, subst, List, [], ◌∷◌, map, Some, None, Result, Ok, Err}
 use Rattle.qe_poly.specs.declared.monomial.Var.{Var}
 use Rattle.qe_form.specs.Formula.{Formula}
 use Rattle.qe_points.specs.Choice.{choice}

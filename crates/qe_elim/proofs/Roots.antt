@@ -1,5 +1,5 @@
 -- The formula at the root of a block's tree.
-use Rattle.std.proofs.Common.{◌≡◌, sym, ap, subst, ◌^◌, ◌<◌, Result, Ok, Err, IfOk, ℕ}
+use Rattle.std.proofs.Common.{◌≡◌, sym, ap, subst, ◌^◌, ◌<◌, Result, Ok, Err, IfOk}
 use Rattle.qe_form.specs.declared.form.Form.{Form}
 use Rattle.qe_form.specs.Formula.{Formula}
 use Rattle.qe_form.specs.Tree.{tree}

@@ -1,14 +1,20 @@
 -- A prenex form of one block without variables over True.
-use Rattle.std.proofs.Common.{ℕ, zero, suc, ◌≡◌, ◌∙◌, sym, ap, subst, ◌<◌, ◌≤◌, ◌^◌, ◌-◌, length, get_or, nat_eq, List, [], ◌∷◌, ◌++◌, map, arith}
-use Rattle.std.specs.List.{IsDistinct, Contains, All}
+use Rattle.std.proofs.Common.{zero, suc, ◌≡◌, ◌∙◌, sym, ap, subst, ◌≤◌, length, nat_eq, [], ◌∷◌, ◌++◌, map, arith}
+use Rattle.std.specs.List.{IsDistinct, All}
 use Rattle.qe_form.specs.Formula.{Formula, True}
-use Rattle.qe_form.specs.Tree.{tree}
+use Rattle.qe_form.specs.Tree.{tree, tree_step}
+use Rattle.qe_form.specs.declared.form.Form.TheOpen as layer
+use Rattle.qe_form.specs.declared.form.Form.TheFolds.{fold-roll-Form}
+use Rattle.qe_form.specs.declared.form.Form.TheVariants as variant
 use Rattle.qe_form.specs.Same.{IsFree}
 use Rattle.qe_form.specs.Numbered.{Occurs}
 use Rattle.qe_norm.specs.declared.prenex.Block.{Block}
 use Rattle.qe_norm.specs.declared.prenex.Prenex.{Prenex}
 use Rattle.qe_norm.specs.Blocks.{quantified_each, meaning, variables}
 use Rattle.qe_norm.specs.Prenex.{IsWellNumbered, stands_for}
+
+pub tree_true : tree variant.True ≡ True
+tree_true = ap tree (sym variant.rolls-True) ∙ fold-roll-Form Formula tree_step layer.Form-F.True
 
 none_distinct : IsDistinct nat_eq []
 unfolding IsDistinct

@@ -1,15 +1,14 @@
 -- What a visit of a node does to the state, from what its parts do.
-use Rattle.std.proofs.Common.{ℕ, ◌≡◌, ◌∙◌, sym, ap, refl, subst, ◌<◌, ◌≤◌, ◌⊎◌, inl, inr, Bool, true, false, ◌||◌, eqb, if◌then◌else◌, List, [], ◌∷◌, ◌++◌, map, length, reverse, Option, Some, None, Result, Ok, Err, OnOk, arith}
+use Rattle.std.proofs.Common.{ℕ, ◌≡◌, ◌∙◌, sym, ap, refl, Bool, false, ◌||◌, eqb, if◌then◌else◌, List, [], ◌∷◌, ◌++◌, map, length, Result, Ok, Err, OnOk}
 use Rattle.std.specs.List.{list_any}
 use Rattle.std.specs.Ordering.{is_eq, eq_by_cmp}
-use Rattle.std.proofs.lemmas.List.{map-append, length-map}
+use Rattle.std.proofs.lemmas.List.{map-append}
 use Rattle.indexmap.specs.IndexSet.{insert_key}
 use Rattle.qe_poly.specs.declared.monomial.Var.{Var}
 use Rattle.qe_form.specs.declared.form.Form.{Form}
 use Rattle.qe_form.specs.Formula.{Formula}
 use Rattle.qe_form.specs.Order.{formula_cmp}
 use Rattle.qe_form.specs.Tree.{tree}
-use Rattle.qe_tree.specs.Variables.{remaining}
 use Rattle.qe_tree.specs.Expanded.{successors}
 use Rattle.qe_tree.specs.Tree.{Step, unless_leaf, grown, is_among}
 use Rattle.qe_tree.proofs.Walks.{with_step}
@@ -17,9 +16,7 @@ use Rattle.qe_piece.specs.declared.maker.Next.{Next}
 use Rattle.qe_node.specs.Node.{Sight}
 use Rattle.qe_node.specs.Successors.{expansion}
 use Rattle.qe_node.specs.Answer.{others, below, shown}
-use Rattle.qe_elim.specs.declared.search.Growth.{Growth}
-use Rattle.qe_elim.specs.declared.search.Growth.TheVariants.{Grown}
-use Rattle.qe_elim.specs.Search.{Entry, entry_below, entry_at, entries_below, IsGrowth}
+use Rattle.qe_elim.specs.Search.{entry_below, entry_at, entries_below}
 
 -- ---- the formulas that were met
 

@@ -1,10 +1,10 @@
 -- The state of a search through a tree, and what a turn of it does.
-use Rattle.std.specs.Prelude.{ℕ, ◌≡◌, ◌<◌, ◌≤◌, ◌⊎◌, Bool, true, false, not, eqb, List, [], ◌∷◌, ◌++◌, map, filter, length, reverse, Option, Some, None, Result, Ok, Err}
+use Rattle.std.specs.Prelude.{ℕ, ◌≡◌, ◌<◌, ◌≤◌, ◌⊎◌, Bool, true, false, List, [], ◌∷◌, ◌++◌, map, length, reverse, Option, Some, None, Result, Ok, Err}
 use Rattle.std.specs.Option.{option_map}
 use Rattle.qe_form.specs.Formula.{Formula}
 use Rattle.qe_form.specs.Tree.{tree}
 use Rattle.qe_tree.specs.Variables.{remaining}
-use Rattle.qe_tree.specs.Expanded.{Expanded, successors, failed}
+use Rattle.qe_tree.specs.Expanded.{successors, failed}
 use Rattle.qe_tree.specs.Tree.{Step, unless_leaf, grown, failure_of, is_among, is_true, has_true_leaf, nodes, leaves, first_failure}
 use Rattle.qe_piece.specs.declared.maker.Next.{Next}
 use Rattle.qe_node.specs.declared.stop.NodeStop.{NodeStop}

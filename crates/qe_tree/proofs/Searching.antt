@@ -193,9 +193,9 @@ module _ {F : Type 0} (Good : Formula → Type 0) (expand : Expansion F) (sound 
   visited_covers met t todo good covers g in_met h k = elim (in_append g met (t.form ∷ []) in_met) [
     | inl old ↦ by_test old (nat_lt (left t.form) (left g)) refl (covers g old h k)
     | inr last ↦ elim last [
-        | inl same ↦ own (subst (λ f. IsIn h (forms (here [] f))) same k) (ap left same)
-        | inr never ↦ absurd never
-      ]
+      | inl same ↦ own (subst (λ f. IsIn h (forms (here [] f))) same k) (ap left same)
+      | inr never ↦ absurd never
+    ]
   ]
     where
       each : Each (λ s. IsBelow Good expand sound vars t.form s.1) (below expand vars t.form)

@@ -1,4 +1,3 @@
-use Rattle.std.proofs.Common.{Ok, Err, IfOk, Result}
 use Rattle.qe_form.specs.Tree.{tree}
 use Rattle.qe_elim.specs.Answer.{blocks_of}
 use Rattle.qe_elim.proofs.Alone.{complete, means, means_same, means_plain, means_no_quantifier}

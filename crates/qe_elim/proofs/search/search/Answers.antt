@@ -1,9 +1,9 @@
-use Rattle.std.proofs.Common.{ℕ, ◌≡◌, ◌∙◌, sym, ap, refl, subst, ◌<◌, List, [], ◌∷◌, ◌++◌, map, length, Ok, Err, true, false, arith}
+use Rattle.std.proofs.Common.{◌∙◌, sym, ap, refl, subst, map, Ok, Err, arith}
 use Rattle.std.proofs.lemmas.Result.{err_from_is_err_and}
 use Rattle.qe_form.specs.Tree.{tree}
-use Rattle.qe_elim.specs.Search.{entry_of, entries, state_of, IsTurn, IsEnd}
+use Rattle.qe_elim.specs.Search.{entry_of, state_of, IsTurn, IsEnd}
 use Rattle.qe_elim.proofs.Soundness.{Good, sound}
-use Rattle.qe_elim.proofs.Turns.{IsSearched, start_searched, start_waiting, taken_from, less_over, turn_goes_on, turn_finds, turn_ends, turn_shrinks, ended_leaves, ended_failed, no_items}
+use Rattle.qe_elim.proofs.Turns.{start_searched, start_waiting, taken_from, less_over, turn_goes_on, turn_finds, turn_ends, turn_shrinks, ended_leaves, ended_failed, no_items}
 use Rattle.qe_elim.proofs.search.search.Goals as goal
 
 pub loop-next-init : goal.loop-next-init
