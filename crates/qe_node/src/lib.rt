@@ -8,8 +8,11 @@ mod node;
 mod piece;
 mod start;
 mod stop;
+#[cfg(test)]
+mod tests;
 mod trial;
 
+pub use growth::{expand, successors};
 pub use node::Node;
 pub use piece::Expander;
 pub use qe_form::{Form, Sequence, Var};
@@ -19,7 +22,6 @@ pub use qe_root::Stage;
 pub use start::root;
 pub use std::alloc::AllocError as OutOfMemory;
 pub use stop::NodeStop;
-pub use growth::{expand, successors};
 
 /// Variables in order.
 pub type Vars = Sequence<Var>;

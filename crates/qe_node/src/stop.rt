@@ -16,5 +16,7 @@ pub enum NodeStop {
         limit: PolyLimit,
     },
     /// At the candidate with the number `point` the formula would have more than 65,536 atoms and constants.
-    TooLarge { point: u64 },
+    TooLarge {
+        point: u64,
+    },
 }
