@@ -15,5 +15,5 @@ pub returns-in-Ok-clause-answer : goal.returns-in-Ok-clause-answer
 returns-in-Ok-clause-answer g c =
     let same : map string_bytes c.in-Ok.words.items ≡ map string_bytes c.deref.result.now = ap (map string_bytes) (sym c.deref.ensures.value) in
     let refused : AsksNothing (map string_bytes c.in-Ok.words.items) → c.run_alone.result ≢ status.Ok = λ nothing ok.
-        let asked = c.run_alone.ensures.causes.ok ok in subst AsksNothing same nothing asked.0 asked.1 in
+    let asked = c.run_alone.ensures.causes.ok ok in subst AsksNothing same nothing asked.0 asked.1 in
     subst (λ w. IfOk w (λ all. AsksNothing (map string_bytes all.items) → c.run_alone.result ≢ status.Ok)) (sym c.in-Ok.is) refused
