@@ -92,7 +92,7 @@ row() {
 printf 'processors %s, seed %s\n\n' "$(nproc)" "$seed"
 printf '| %-12s | %-7s | %9s | %6s | %8s | %12s | %9s |\n' family size ms status nodes 'bytes written' 'KiB'
 printf '|--------------|---------|-----------|--------|----------|---------------|-----------|\n'
-for size in '4 1' '8 1' '16 1' '4 2' '8 2' '12 2' '4 3' '6 3' '8 3'; do
+for size in '8 1' '16 1' '32 1' '8 2' '16 2' '32 2' '8 3' '12 3' '16 3' '8 4' '10 4'; do
   read -r rows variables <<<"$size"
   linear "$rows" "$variables" >"$work/input"
   row linear "$rows by $variables"
