@@ -1,4 +1,4 @@
-use Rattle.std.proofs.Common.{◌≡◌, ◌≢◌, ap, sym, subst, Ok}
+use Rattle.std.proofs.Common.{◌≡◌, ◌≢◌, ap, sym, subst}
 use Rattle.std.specs.Prelude.{map, IfOk}
 use Rattle.std.specs.String.{string_bytes}
 use Rattle.qe_program.specs.Asked.{AsksNothing}
