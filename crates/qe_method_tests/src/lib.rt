@@ -1,0 +1,6 @@
+//! Worked cases of the method's steps, as tests over the public calls of the crates from polynomials to nodes.
+//! They stand apart, so that none of those crates is proved a second time beside its tests.
+#![tactic(auto)]
+
+#[cfg(test)]
+mod polynomials;
