@@ -84,7 +84,7 @@ fn collect(
         (λ r. (monomials_limit p q ≡ None) × (limit_of r.1 ≡ pairs_wide p q) × (map shown_group (r.0).items ≡ entered (fitted p q) []))
         (IsStop (monomials_limit p q)) }
 {
-    let mut groups = Vec::new(alloc);
+    let mut groups = Vec::with_capacity(alloc, left.len().max(right.len()))?;
     let mut wide = None;
     for term in left {
         wide = enter_row(alloc, &mut groups, wide, term, right)?;

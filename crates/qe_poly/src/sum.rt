@@ -68,7 +68,7 @@ fn merge(alloc: Global, left: &[Term], right: &[Term]) -> Result<Vec<Row>, Alloc
     ensures { IfOk result (λ v. map shown_row v.items ≡ merged (map shown left.now) (map shown right.now)) }
 {
     let zero = Coef::zero();
-    let mut rows = Vec::new(alloc);
+    let mut rows = Vec::with_capacity(alloc, left.len().max(right.len()))?;
     let mut i = 0;
     let mut j = 0;
     while i < left.len() && j < right.len() {
