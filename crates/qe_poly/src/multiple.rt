@@ -19,7 +19,7 @@ pub fn multiple(alloc: Global, terms: &[Term], by: Coef) -> Result<Vec<Term>, Po
         (λ v. (limit ≡ None) × (map shown v.items ≡ scaled by (map shown terms.now)))
         (IsStop limit) }
 {
-    let mut products = Vec::new(alloc);
+    let mut products = Vec::with_capacity(alloc, terms.len())?;
     for term in terms {
         match term.coef.mul(by) {
             Ok(coef) => {

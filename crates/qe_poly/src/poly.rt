@@ -308,12 +308,65 @@ mod tests {
     use super::*;
     use crate::limit::PolyLimit;
     use qe_coef::Wide;
-    use std::test::Fail;
 
     const MOST: i128 = i128::MAX;
 
+    /// The exponents of the variables 0 to 3.
+    type Exponents = [u16; 4];
+
+    /// A coefficient with its exponents.
+    type Part = (i128, Exponents);
+
+    const ONE: Exponents = [0, 0, 0, 0];
+
+    const X: Exponents = [1, 0, 0, 0];
+
+    const Y: Exponents = [0, 1, 0, 0];
+
+    const XX: Exponents = [2, 0, 0, 0];
+
+    const XY: Exponents = [1, 1, 0, 0];
+
+    const YY: Exponents = [0, 2, 0, 0];
+
     fn coef(value: i128) -> Coef {
         Coef::of(value).unwrap_or(Coef::zero())
+    }
+
+    /// A term, by its coefficient and exponents.
+    fn term_of(alloc: Global, value: i128, exponents: &Exponents) -> Result<Poly, PolyStop> {
+        let mut term = Poly::constant(alloc, coef(value))?;
+        for var in 0..4 {
+            let power = Poly::power(alloc, Var(var), u32::from(exponents[var as usize]))?;
+            term = term.mul(alloc, &power)?;
+        }
+        Ok(term)
+    }
+
+    /// The sum of terms.
+    fn sum_of(alloc: Global, terms: &[Part]) -> Result<Poly, PolyStop> {
+        let mut sum = Poly::constant(alloc, Coef::zero())?;
+        for (value, exponents) in terms {
+            let term = term_of(alloc, *value, exponents)?;
+            sum = sum.add(alloc, &term)?;
+        }
+        Ok(sum)
+    }
+
+    /// Whether a polynomial is the sum of these terms.
+    fn is_sum(alloc: Global, poly: &Poly, terms: &[Part]) -> bool {
+        match sum_of(alloc, terms) {
+            Ok(sum) => sum == *poly,
+            Err(_) => false,
+        }
+    }
+
+    /// Whether an operation gave the sum of these terms.
+    fn gives(alloc: Global, outcome: Result<Poly, PolyStop>, terms: &[Part]) -> bool {
+        match outcome {
+            Ok(poly) => is_sum(alloc, &poly, terms),
+            Err(_) => false,
+        }
     }
 
     /// The number that an operation gave, or why it gave none.
@@ -324,123 +377,174 @@ mod tests {
         }
     }
 
-    fn wide(op: Op, left: i128, right: i128) -> Result<Option<i128>, PolyStop> {
-        Err(PolyStop::Limit(PolyLimit::Coefficient(Wide {
+    fn wide(op: Op, left: i128, right: i128) -> PolyLimit {
+        PolyLimit::Coefficient(Wide {
             op,
             left: coef(left),
             right: coef(right),
-        })))
+        })
+    }
+
+    /// What `number` tells of an operation that met a limit.
+    fn stopped(limit: PolyLimit) -> Result<Option<i128>, PolyStop> {
+        Err(PolyStop::Limit(limit))
+    }
+
+    /// The operation on two sums.
+    fn combined(alloc: Global, op: Op, left: &[Part], right: &[Part]) -> Result<Poly, PolyStop> {
+        let p = sum_of(alloc, left)?;
+        let q = sum_of(alloc, right)?;
+        match op {
+            Op::Add => p.add(alloc, &q),
+            Op::Sub => p.sub(alloc, &q),
+            Op::Mul => p.mul(alloc, &q),
+        }
+    }
+
+    /// Whether two sums are equal.
+    fn are_equal(alloc: Global, left: &[Part], right: &[Part]) -> Result<bool, PolyStop> {
+        let p = sum_of(alloc, left)?;
+        Ok(is_sum(alloc, &p, right))
+    }
+
+    /// The negative of a number.
+    fn negative(alloc: Global, value: i128) -> Result<Poly, PolyStop> {
+        let p = Poly::constant(alloc, coef(value))?;
+        Ok(p.neg(alloc)?)
+    }
+
+    /// The copy of a number.
+    fn copied(alloc: Global, value: i128) -> Result<Poly, PolyStop> {
+        let p = Poly::constant(alloc, coef(value))?;
+        Ok(p.copy(alloc)?)
     }
 
     #[test]
-    fn adds_and_subtracts_constants(rt: HostRuntime) -> Result<(), Fail> {
+    fn adds_and_subtracts_constants(rt: HostRuntime) {
         let alloc = rt.alloc();
-        let cases = [
+        for (left, right, opposite, total, rest) in [
             (2, 3, -2, Ok(Some(5)), Ok(Some(-1))),
             (5, 5, -5, Ok(Some(10)), Ok(Some(0))),
             (-7, 7, 7, Ok(Some(0)), Ok(Some(-14))),
             (0, 4, 0, Ok(Some(4)), Ok(Some(-4))),
-            (MOST, 1, -MOST, wide(Op::Add, MOST, 1), Ok(Some(MOST - 1))),
-            (-MOST, 1, MOST, Ok(Some(1 - MOST)), wide(Op::Sub, -MOST, 1)),
+            (
+                MOST,
+                1,
+                -MOST,
+                stopped(wide(Op::Add, MOST, 1)),
+                Ok(Some(MOST - 1)),
+            ),
+            (
+                -MOST,
+                1,
+                MOST,
+                Ok(Some(1 - MOST)),
+                stopped(wide(Op::Sub, -MOST, 1)),
+            ),
+        ] {
+            let p = [(left, ONE)];
+            let q = [(right, ONE)];
+            assert!(rt; number(combined(alloc, Op::Add, &p, &q)) == total);
+            assert!(rt; number(combined(alloc, Op::Sub, &p, &q)) == rest);
+            assert!(rt; are_equal(alloc, &p, &q) == Ok(left == right));
+            assert!(rt; gives(alloc, copied(alloc, left), &p));
+            assert!(rt; number(negative(alloc, left)) == Ok(Some(opposite)));
+        }
+    }
+
+    /// The sum of terms with a variable in the place of another.
+    fn renamed(alloc: Global, terms: &[Part], from: u32, to: u32) -> Result<Poly, PolyStop> {
+        let p = sum_of(alloc, terms)?;
+        Ok(p.renamed(alloc, Var(from), Var(to))?)
+    }
+
+    /// Whether a variable stands in the sum of terms.
+    fn has(alloc: Global, terms: &[Part], var: u32) -> Result<bool, PolyStop> {
+        let p = sum_of(alloc, terms)?;
+        Ok(p.has(Var(var)))
+    }
+
+    #[test]
+    fn renames_a_variable(rt: HostRuntime) {
+        let alloc = rt.alloc();
+        let xy: &[Part] = &[(1, XY)];
+        let terms: &[Part] = &[(1, XX), (1, Y)];
+        let rows: [(&[Part], u32, &[Part]); 3] = [
+            // x*y with z in the place of x is y*z, and y stands in it already
+            (xy, 2, &[(1, [0, 1, 1, 0])]),
+            (xy, 1, xy),
+            // x^2 + y with z in the place of x is y + z^2
+            (terms, 2, &[(1, Y), (1, [0, 0, 2, 0])]),
         ];
-        for (left, right, negative, sum, difference) in cases {
-            let p = Poly::constant(alloc, coef(left))?;
-            let q = Poly::constant(alloc, coef(right))?;
-            assert_eq!(rt; number(p.add(alloc, &q)), sum);
-            assert_eq!(rt; number(p.sub(alloc, &q)), difference);
-            assert_eq!(rt; p == q, left == right);
-            assert!(rt; p.copy(alloc)? == p);
-            assert_eq!(rt; p.neg(alloc)?.as_constant(), Some(coef(negative)));
+        for (poly, to, want) in rows {
+            assert!(rt; gives(alloc, renamed(alloc, poly, 0, to), want));
         }
-        Ok(())
+        assert!(rt; has(alloc, terms, 0) == Ok(true) && has(alloc, terms, 2) == Ok(false));
     }
 
-    /// The sum of `1`, `x`, .. to the power before `count`.
-    fn powers(alloc: Global, var: Var, count: u16) -> Result<Poly, Fail> {
-        let mut sum = Poly::constant(alloc, Coef::zero())?;
-        for exponent in 0..count {
-            sum = sum.add(alloc, &Poly::power(alloc, var, exponent as u32)?)?;
+    #[test]
+    fn multiplies(rt: HostRuntime) {
+        let alloc = rt.alloc();
+        assert!(rt; number(term_of(alloc, 1, &ONE)) == Ok(Some(1)));
+
+        // (x + 1)*(x - 1) = x^2 - 1, and (x + y)^2 = x^2 + 2*x*y + y^2
+        let more: &[Part] = &[(1, X), (1, ONE)];
+        let less: &[Part] = &[(1, X), (-1, ONE)];
+        let both: &[Part] = &[(1, X), (1, Y)];
+        let rows: [(Op, [&[Part]; 3]); 6] = [
+            (Op::Add, [&[(1, X)], &[(1, ONE)], more]),
+            (Op::Sub, [&[(1, X)], &[(1, ONE)], less]),
+            (Op::Sub, [&[(1, XX)], &[(1, ONE)], &[(1, XX), (-1, ONE)]]),
+            (Op::Mul, [more, less, &[(1, XX), (-1, ONE)]]),
+            (Op::Mul, [&[(2, ONE)], &[(1, XY)], &[(2, XY)]]),
+            (Op::Mul, [both, both, &[(1, XX), (2, XY), (1, YY)]]),
+        ];
+        for (op, [left, right, want]) in rows {
+            assert!(rt; gives(alloc, combined(alloc, op, left, right), want));
         }
-        Ok(sum)
     }
 
     #[test]
-    fn renames_a_variable(rt: HostRuntime) -> Result<(), Fail> {
+    fn tells_the_limits_of_products(rt: HostRuntime) {
         let alloc = rt.alloc();
-        let x = Poly::power(alloc, Var(0), 1)?;
-        let y = Poly::power(alloc, Var(1), 1)?;
-        let z = Poly::power(alloc, Var(2), 1)?;
-        // x*y with z in the place of x is y*z, and y stands in it already
-        let product = x.mul(alloc, &y)?;
-        assert!(rt; product.renamed(alloc, Var(0), Var(2))? == y.mul(alloc, &z)?);
-        assert!(rt; product.renamed(alloc, Var(0), Var(1))? == product);
-        Ok(())
-    }
-
-    #[test]
-    fn sorts_what_it_renames(rt: HostRuntime) -> Result<(), Fail> {
-        let alloc = rt.alloc();
-        let x = Poly::power(alloc, Var(0), 2)?;
-        let y = Poly::power(alloc, Var(1), 1)?;
-        // x^2 + y with z in the place of x is y + z^2
-        let sum = x.add(alloc, &y)?;
-        let want = y.add(alloc, &Poly::power(alloc, Var(2), 2)?)?;
-        assert!(rt; sum.has(Var(0)) && !sum.has(Var(2)));
-        assert!(rt; sum.renamed(alloc, Var(0), Var(2))? == want);
-        Ok(())
-    }
-
-    #[test]
-    fn multiplies(rt: HostRuntime) -> Result<(), Fail> {
-        let alloc = rt.alloc();
-        let x = Poly::power(alloc, Var(0), 1)?;
-        let y = Poly::power(alloc, Var(1), 1)?;
-        let one = Poly::power(alloc, Var(0), 0)?;
-        assert_eq!(rt; one.as_constant(), Some(coef(1)));
-
-        // (x + 1)*(x - 1) = x^2 - 1
-        let product = x.add(alloc, &one)?.mul(alloc, &x.sub(alloc, &one)?)?;
-        let square = Poly::power(alloc, Var(0), 2)?;
-        assert!(rt; product == square.sub(alloc, &one)?);
-
-        // (x + y)^2 = x^2 + 2*x*y + y^2
-        let sum = x.add(alloc, &y)?;
-        let twice = Poly::constant(alloc, coef(2))?.mul(alloc, &x.mul(alloc, &y)?)?;
-        let squares = square.add(alloc, &Poly::power(alloc, Var(1), 2)?)?;
-        assert!(rt; sum.mul(alloc, &sum)? == squares.add(alloc, &twice)?);
-        Ok(())
-    }
-
-    #[test]
-    fn tells_the_limits_of_products(rt: HostRuntime) -> Result<(), Fail> {
-        let alloc = rt.alloc();
-        // 40,000 + 40,000 = 80,000 is over 65,535
-        let high = Poly::power(alloc, Var(0), 40000)?;
-        let exponent = Err(PolyStop::Limit(PolyLimit::Exponent));
-        assert_eq!(rt; number(high.mul(alloc, &high)), exponent);
-
-        // 65*65 = 4,225 monomials
-        let rows = powers(alloc, Var(0), 65)?;
-        let columns = powers(alloc, Var(1), 65)?;
-        let monomials = Err(PolyStop::Limit(PolyLimit::Monomials));
-        assert_eq!(rt; number(rows.mul(alloc, &columns)), monomials);
-
-        // 2*(2^127-1) is out of range
-        let most = Poly::constant(alloc, coef(MOST))?;
-        let two = Poly::constant(alloc, coef(2))?;
-        assert_eq!(rt; number(most.mul(alloc, &two)), wide(Op::Mul, MOST, 2));
-
-        // (k*a + k)*(k*a - k): at a meet k^2 and -k^2, and the magnitudes add to 2*k^2, just over 2^127-1
-        let k = Poly::constant(alloc, coef(13043817825332782212))?;
-        let a = k.mul(alloc, &Poly::power(alloc, Var(0), 1)?)?;
-        let product = a.add(alloc, &k)?.mul(alloc, &a.sub(alloc, &k)?);
+        // the sums of 1, x, .. to x^64, and of 1, y, .. to y^64
+        let mut rows = [(1, ONE); 65];
+        let mut columns = [(1, ONE); 65];
+        for i in 0..65 {
+            rows[i] = (1, [i as u16, 0, 0, 0]);
+            columns[i] = (1, [0, i as u16, 0, 0]);
+        }
+        let high: &[Part] = &[(1, [40000, 0, 0, 0])];
+        let k = 13043817825332782212;
         let square = 170141183460469231722567801800623612944;
-        assert_eq!(rt; number(product), wide(Op::Add, square, square));
-        Ok(())
+        let cases: [(&[Part], &[Part], PolyLimit); 4] = [
+            // 40,000 + 40,000 = 80,000 is over 65,535
+            (high, high, PolyLimit::Exponent),
+            // 65*65 = 4,225 monomials
+            (&rows, &columns, PolyLimit::Monomials),
+            // 2*(2^127-1) is out of range
+            (&[(MOST, ONE)], &[(2, ONE)], wide(Op::Mul, MOST, 2)),
+            // (k*a + k)*(k*a - k): at a meet k^2 and -k^2, and the magnitudes add to 2*k^2, just over 2^127-1
+            (
+                &[(k, X), (k, ONE)],
+                &[(k, X), (-k, ONE)],
+                wide(Op::Add, square, square),
+            ),
+        ];
+        for (left, right, limit) in cases {
+            let outcome = combined(alloc, Op::Mul, left, right);
+            assert!(rt; number(outcome) == stopped(limit));
+        }
+    }
+
+    /// The sum of terms times a number.
+    fn scaled(alloc: Global, terms: &[Part], by: i128) -> Result<Poly, PolyStop> {
+        let p = sum_of(alloc, terms)?;
+        p.scale(alloc, coef(by))
     }
 
     #[test]
-    fn scales_by_a_number(rt: HostRuntime) -> Result<(), Fail> {
+    fn scales_by_a_number(rt: HostRuntime) {
         let alloc = rt.alloc();
         for (value, by, want) in [
             (3, 4, Ok(Some(12))),
@@ -448,78 +552,91 @@ mod tests {
             (5, 0, Ok(Some(0))),
             (0, 5, Ok(Some(0))),
             (MOST, -1, Ok(Some(-MOST))),
-            (MOST, 2, wide(Op::Mul, MOST, 2)),
+            (MOST, 2, stopped(wide(Op::Mul, MOST, 2))),
         ] {
-            let p = Poly::constant(alloc, coef(value))?;
-            assert_eq!(rt;
-                number(p.scale(alloc, coef(by))),
-                want,
-                "{value} times {by}"
-            );
+            let outcome = scaled(alloc, &[(value, ONE)], by);
+            assert!(rt; number(outcome) == want);
         }
-        let x = Poly::power(alloc, Var(0), 1)?;
-        let sum = x.add(alloc, &x)?;
-        assert!(rt; x.scale(alloc, coef(2))? == sum);
-        Ok(())
+        assert!(rt; gives(alloc, scaled(alloc, &[(1, X)], 2), &[(1, X), (1, X)]));
     }
 
-    /// The sum of terms, each a coefficient with the exponents of two variables.
-    fn sum_of(alloc: Global, terms: &[(i128, u16, u16)]) -> Result<Poly, PolyStop> {
-        let mut sum = Poly::constant(alloc, Coef::zero())?;
-        for (value, x, y) in terms {
-            let powers = Poly::power(alloc, Var(0), u32::from(*x))?;
-            let term = powers.mul(alloc, &Poly::power(alloc, Var(1), u32::from(*y))?)?;
-            sum = sum.add(alloc, &term.scale(alloc, coef(*value))?)?;
-        }
-        Ok(sum)
+    /// The derivative of the sum of terms.
+    fn derived(alloc: Global, terms: &[Part], var: u32) -> Result<Poly, PolyStop> {
+        let p = sum_of(alloc, terms)?;
+        p.derivative(alloc, Var(var))
     }
 
     #[test]
-    fn derives_by_a_variable(rt: HostRuntime) -> Result<(), Fail> {
+    fn derives_by_a_variable(rt: HostRuntime) {
         let alloc = rt.alloc();
         // 3*x^2*y - 5*x + 7*y: by x it is 6*x*y - 5, by y it is 3*x^2 + 7, by another variable it is 0
-        let p = sum_of(alloc, &[(3, 2, 1), (-5, 1, 0), (7, 0, 1)])?;
-        assert!(rt; p.derivative(alloc, Var(0))? == sum_of(alloc, &[(6, 1, 1), (-5, 0, 0)])?);
-        assert!(rt; p.derivative(alloc, Var(1))? == sum_of(alloc, &[(3, 2, 0), (7, 0, 0)])?);
-        assert_eq!(rt; number(p.derivative(alloc, Var(2))), Ok(Some(0)));
+        let terms = [(3, [2, 1, 0, 0]), (-5, X), (7, Y)];
+        let rows: [(u32, &[Part]); 3] = [
+            (0, &[(6, XY), (-5, ONE)]),
+            (1, &[(3, XX), (7, ONE)]),
+            (2, &[]),
+        ];
+        for (var, want) in rows {
+            assert!(rt; gives(alloc, derived(alloc, &terms, var), want));
+        }
 
-        let wide_term = sum_of(alloc, &[(MOST, 2, 0), (1, 1, 0)])?;
-        let limit = wide_term.derivative(alloc, Var(0));
-        assert_eq!(rt; number(limit), wide(Op::Mul, MOST, 2));
-        Ok(())
+        let limit = derived(alloc, &[(MOST, XX), (1, X)], 0);
+        assert!(rt; number(limit) == stopped(wide(Op::Mul, MOST, 2)));
+    }
+
+    /// The order of two sums of terms, and whether they are equal.
+    fn order_of(
+        alloc: Global,
+        left: &[Part],
+        right: &[Part],
+    ) -> Result<(Ordering, bool), PolyStop> {
+        let p = sum_of(alloc, left)?;
+        let q = sum_of(alloc, right)?;
+        Ok((p.compare(&q), p == q))
     }
 
     #[test]
-    fn compares_term_by_term(rt: HostRuntime) -> Result<(), Fail> {
+    fn compares_term_by_term(rt: HostRuntime) {
         let alloc = rt.alloc();
         // 0, -x^2, x^2, x^2 + y, x^2 + 1, x*y, x, y^2, y, -5, 3
-        let in_order = [
-            sum_of(alloc, &[])?,
-            sum_of(alloc, &[(-1, 2, 0)])?,
-            sum_of(alloc, &[(1, 2, 0)])?,
-            sum_of(alloc, &[(1, 2, 0), (1, 0, 1)])?,
-            sum_of(alloc, &[(1, 2, 0), (1, 0, 0)])?,
-            sum_of(alloc, &[(1, 1, 1)])?,
-            sum_of(alloc, &[(1, 1, 0)])?,
-            sum_of(alloc, &[(1, 0, 2)])?,
-            sum_of(alloc, &[(1, 0, 1)])?,
-            sum_of(alloc, &[(-5, 0, 0)])?,
-            sum_of(alloc, &[(3, 0, 0)])?,
+        let in_order: [&[Part]; 11] = [
+            &[],
+            &[(-1, XX)],
+            &[(1, XX)],
+            &[(1, XX), (1, Y)],
+            &[(1, XX), (1, ONE)],
+            &[(1, XY)],
+            &[(1, X)],
+            &[(1, YY)],
+            &[(1, Y)],
+            &[(-5, ONE)],
+            &[(3, ONE)],
         ];
-        for (i, p) in in_order.iter().enumerate() {
-            for (j, q) in in_order.iter().enumerate() {
-                assert_eq!(rt; p.compare(q), i.cmp(&j), "{i} and {j}");
-                assert_eq!(rt; p == q, i == j, "{i} and {j}");
+        for i in 0..11 {
+            for j in 0..11 {
+                let outcome = order_of(alloc, in_order[i], in_order[j]);
+                assert!(rt; outcome == Ok((i.cmp(&j), i == j)), "{i} and {j}");
             }
         }
-        Ok(())
+    }
+
+    /// Whether the sum of terms, divided by its content, is this sum, and is told to be negated or not.
+    fn divides(
+        alloc: Global,
+        terms: &[Part],
+        want: &[Part],
+        is_negated: bool,
+    ) -> Result<bool, PolyStop> {
+        let p = sum_of(alloc, terms)?;
+        let (quotient, told) = p.primitive(alloc)?;
+        Ok(told == is_negated && is_sum(alloc, &quotient, want))
     }
 
     #[test]
-    fn divides_by_the_content(rt: HostRuntime) -> Result<(), Fail> {
+    fn divides_by_the_content(rt: HostRuntime) {
         let alloc = rt.alloc();
         // a*x + b*y, the primitive polynomial's a and b, and whether it is negated
-        for (a, b, x, y, negated) in [
+        for (a, b, x, y, is_negated) in [
             (6, -4, 3, -2, false),
             (-6, 4, 3, -2, true),
             (-6, -4, 3, 2, true),
@@ -529,32 +646,46 @@ mod tests {
             (-MOST, MOST, 1, -1, true),
             (0, 0, 0, 0, false),
         ] {
-            let (primitive, told) = sum_of(alloc, &[(a, 1, 0), (b, 0, 1)])?.primitive(alloc)?;
-            let want = sum_of(alloc, &[(x, 1, 0), (y, 0, 1)])?;
-            assert!(rt; primitive == want, "{a} and {b}");
-            assert_eq!(rt; told, negated, "{a} and {b}");
+            let outcome = divides(alloc, &[(a, X), (b, Y)], &[(x, X), (y, Y)], is_negated);
+            assert!(rt; outcome == Ok(true));
         }
-        Ok(())
+    }
+
+    /// The degree of the sum of terms in a variable.
+    fn degree(alloc: Global, terms: &[Part], var: u32) -> Result<u32, PolyStop> {
+        let p = sum_of(alloc, terms)?;
+        Ok(p.degree_in(Var(var)))
+    }
+
+    /// Whether the coefficients of the sum of terms in a variable are these three sums.
+    fn has_parts(
+        alloc: Global,
+        terms: &[Part],
+        var: u32,
+        want: &[&[Part]; 3],
+    ) -> Result<bool, PolyStop> {
+        let p = sum_of(alloc, terms)?;
+        if p.degree_in(Var(var)) > 2 {
+            return Ok(false);
+        }
+        let parts = p.coeffs_in(alloc, Var(var))?;
+        let [square, linear, free] = &parts;
+        Ok(
+            is_sum(alloc, square, want[0])
+                && is_sum(alloc, linear, want[1])
+                && is_sum(alloc, free, want[2]),
+        )
     }
 
     #[test]
-    fn tells_the_coefficients_in_a_variable(rt: HostRuntime) -> Result<(), Fail> {
+    fn tells_the_coefficients_in_a_variable(rt: HostRuntime) {
         let alloc = rt.alloc();
-        let x = Var(1);
-        let a = Poly::power(alloc, Var(0), 1)?;
-        let b = Poly::power(alloc, Var(2), 3)?;
-        let c = Poly::power(alloc, Var(3), 1)?;
-        // a*x^2 + b^3*x + c
-        let quadratic = a.mul(alloc, &Poly::power(alloc, x, 2)?)?;
-        let linear = b.mul(alloc, &Poly::power(alloc, x, 1)?)?;
-        let p = quadratic.add(alloc, &linear)?.add(alloc, &c)?;
-        for (var, degree) in [(0, 1), (1, 2), (2, 3), (3, 1), (4, 0)] {
-            assert_eq!(rt; p.degree_in(Var(var)), degree);
+        // a*x^2 + b^3*x + c, with x the variable 1
+        let terms = [(1, [1, 2, 0, 0]), (1, [0, 1, 3, 0]), (1, [0, 0, 0, 1])];
+        for (var, want) in [(0, 1), (1, 2), (2, 3), (3, 1), (4, 0)] {
+            assert!(rt; degree(alloc, &terms, var) == Ok(want));
         }
-        if p.degree_in(x) <= 2 {
-            let parts = p.coeffs_in(alloc, x)?;
-            assert!(rt; parts == [a, b, c]);
-        }
-        Ok(())
+        let parts: [&[Part]; 3] = [&[(1, X)], &[(1, [0, 0, 3, 0])], &[(1, [0, 0, 0, 1])]];
+        assert!(rt; has_parts(alloc, &terms, 1, &parts) == Ok(true));
     }
 }

@@ -84,7 +84,7 @@ fn collect(
         (λ r. (monomials_limit p q ≡ None) × (limit_of r.1 ≡ pairs_wide p q) × (map shown_group (r.0).items ≡ entered (fitted p q) []))
         (IsStop (monomials_limit p q)) }
 {
-    let mut groups = Vec::new(alloc);
+    let mut groups = Vec::with_capacity(alloc, left.len().max(right.len()))?;
     let mut wide = None;
     for term in left {
         wide = enter_row(alloc, &mut groups, wide, term, right)?;
@@ -96,21 +96,22 @@ fn collect(
 }
 
 /// The sums of groups, without zeros, or the first whose magnitudes leave the range.
-fn finish(alloc: Global, groups: &[Group]) -> Result<Vec<Term>, PolyStop>
-    ensures { let limit = tallied_limit (map shown_group groups.now) in
+fn finish(alloc: Global, groups: Vec<Group>) -> Result<Vec<Term>, PolyStop>
+    ensures { let limit = tallied_limit (map shown_group groups.items) in
         MatchResult result
-        (λ v. (limit ≡ None) × (map shown v.items ≡ tallied_terms (map shown_group groups.now)))
+        (λ v. (limit ≡ None) × (map shown v.items ≡ tallied_terms (map shown_group groups.items)))
         (IsStop limit) }
 {
-    let mut terms = Vec::new(alloc);
+    let mut terms = Vec::with_capacity(alloc, groups.len())?;
     for group in groups {
-        if let Some(wide) = group.tally.over {
+        let Group { monomial, tally } = group;
+        if let Some(wide) = tally.over {
             return Err(PolyStop::Limit(PolyLimit::Coefficient(wide)));
         }
-        if !is_zero(group.tally.sum) {
+        if !is_zero(tally.sum) {
             terms.push(Term {
-                monomial: group.monomial.copy(alloc)?,
-                coef: group.tally.sum,
+                monomial,
+                coef: tally.sum,
             })?;
         }
     }
@@ -128,6 +129,6 @@ pub fn multiply(alloc: Global, left: &[Term], right: &[Term]) -> Result<Vec<Term
     let (groups, wide) = collect(alloc, left, right)?;
     match wide {
         Some(wide) => Err(PolyStop::Limit(PolyLimit::Coefficient(wide))),
-        None => finish(alloc, &groups),
+        None => finish(alloc, groups),
     }
 }

@@ -68,7 +68,7 @@ fn merge(alloc: Global, left: &[Term], right: &[Term]) -> Result<Vec<Row>, Alloc
     ensures { IfOk result (λ v. map shown_row v.items ≡ merged (map shown left.now) (map shown right.now)) }
 {
     let zero = Coef::zero();
-    let mut rows = Vec::new(alloc);
+    let mut rows = Vec::with_capacity(alloc, left.len().max(right.len()))?;
     let mut i = 0;
     let mut j = 0;
     while i < left.len() && j < right.len() {
@@ -107,21 +107,23 @@ fn apply(op: Op, left: Coef, right: Coef) -> Result<Coef, Wide>
 }
 
 /// The results of the operation on each row, without zeros, or the first that is too wide.
-fn results(alloc: Global, rows: &[Row], op: Op) -> Result<Vec<Term>, PolyStop>
-    ensures { let limit = row_limit op (map shown_row rows.now) in
+fn results(alloc: Global, rows: Vec<Row>, op: Op) -> Result<Vec<Term>, PolyStop>
+    ensures { let limit = row_limit op (map shown_row rows.items) in
         MatchResult result
-        (λ v. (limit ≡ None) × (map shown v.items ≡ kept_results op (map shown_row rows.now)))
+        (λ v. (limit ≡ None) × (map shown v.items ≡ kept_results op (map shown_row rows.items)))
         (IsStop limit) }
 {
-    let mut terms = Vec::new(alloc);
+    let mut terms = Vec::with_capacity(alloc, rows.len())?;
     for row in rows {
-        match apply(op, row.left, row.right) {
+        let Row {
+            monomial,
+            left,
+            right,
+        } = row;
+        match apply(op, left, right) {
             Ok(coef) => {
                 if !is_zero(coef) {
-                    terms.push(Term {
-                        monomial: row.monomial.copy(alloc)?,
-                        coef,
-                    })?;
+                    terms.push(Term { monomial, coef })?;
                 }
             }
             Err(wide) => return Err(PolyStop::Limit(PolyLimit::Coefficient(wide))),
@@ -142,5 +144,5 @@ pub fn combine(alloc: Global, left: &[Term], right: &[Term], op: Op) -> Result<V
     if rows.len() > MOST_MONOMIALS {
         return Err(PolyStop::Limit(PolyLimit::Monomials));
     }
-    results(alloc, &rows, op)
+    results(alloc, rows, op)
 }
