@@ -6,7 +6,6 @@ use crate::{
 };
 use std::alloc::Global;
 use std::fmt::Write;
-use std::test::Fail;
 
 const GREATEST: u128 = 170_141_183_460_469_231_731_687_303_715_884_105_727;
 
@@ -222,161 +221,182 @@ fn name_of(fault: TextFault) -> &'static str {
     }
 }
 
-// The tree of a text, or its first fault and the place.
-fn answer(alloc: Global, text: &str) -> Result<String, OutOfMemory> {
-    let tokens = tokens(alloc, text)?;
-    let mut out = String::new(alloc);
-    match parse(
-        alloc,
-        &tokens,
-        u32::try_from(text.len()).unwrap_or(u32::MAX),
-    ) {
-        Ok(formula) => spell(&formula, &mut out)?,
-        Err(ParseStop::Fault(fault, place)) => write!(out, "{} {place}", name_of(fault))?,
-        Err(ParseStop::OutOfMemory) => out.push_str("out of memory")?,
+fn spell_stop(stop: &ParseStop, out: &mut String) -> Result<(), OutOfMemory> {
+    match stop {
+        ParseStop::Fault(fault, place) => write!(out, "{} {place}", name_of(*fault)),
+        ParseStop::OutOfMemory => out.push_str("out of memory"),
     }
+}
+
+// The tree, or `read` where it is not told, or the first fault and its place.
+fn spell_parsed(
+    parsed: &Result<Formula, ParseStop>,
+    told: bool,
+    out: &mut String,
+) -> Result<(), OutOfMemory> {
+    match parsed {
+        Ok(formula) if told => spell(formula, out),
+        Ok(_) => out.push_str("read"),
+        Err(stop) => spell_stop(stop, out),
+    }
+}
+
+fn answer(alloc: Global, text: &str, told: bool) -> Result<String, OutOfMemory> {
+    let tokens = tokens(alloc, text)?;
+    let end = u32::try_from(text.len()).unwrap_or(u32::MAX);
+    let parsed = parse(alloc, &tokens, end);
+    let mut out = String::new(alloc);
+    spell_parsed(&parsed, told, &mut out)?;
     Ok(out)
 }
 
-// The first fault of a text and its place, or `read`.
-fn fault(alloc: Global, text: &str) -> Result<String, OutOfMemory> {
-    let tokens = tokens(alloc, text)?;
-    let mut out = String::new(alloc);
-    match parse(
-        alloc,
-        &tokens,
-        u32::try_from(text.len()).unwrap_or(u32::MAX),
-    ) {
-        Ok(_formula) => out.push_str("read")?,
-        Err(ParseStop::Fault(fault, place)) => write!(out, "{} {place}", name_of(fault))?,
-        Err(ParseStop::OutOfMemory) => out.push_str("out of memory")?,
-    }
-    Ok(out)
+fn is_text(got: &Result<String, OutOfMemory>, want: &str) -> bool {
+    matches!(got, Ok(text) if text.as_str() == want)
 }
 
-// A text so many times, behind another.
-fn repeated(alloc: Global, before: &str, part: &str, count: u32) -> Result<String, OutOfMemory> {
-    let mut out = String::new(alloc);
-    out.push_str(before)?;
+// The first text that has another tree or fault than the one beside it.
+fn first_wrong<'a>(alloc: Global, rows: &[(&'a str, &str)]) -> Option<&'a str> {
+    for (text, want) in rows {
+        if !is_text(&answer(alloc, text, true), want) {
+            return Some(text);
+        }
+    }
+    None
+}
+
+fn push_times(out: &mut String, part: &str, count: u32) -> Result<(), OutOfMemory> {
     for _turn in 0..count {
         out.push_str(part)?;
     }
-    Ok(out)
-}
-
-#[test]
-fn reads_formulas(rt: HostRuntime) -> Result<(), Fail> {
-    for (text, want) in [
-        ("T", " true"),
-        ("[F]", " false"),
-        ("!T&F", " and not true false end"),
-        ("T&F|T", " or and true false end true end"),
-        ("T|F&T", " or true and false true end end"),
-        ("T&[F&T]", " and true and false true end end"),
-        ("TIF", " implies true false"),
-        ("TEF|T", " iff true or false true end"),
-        ("[TIF]IT", " implies implies true false true"),
-        ("Xxy.T", " ex 1 ex 2 true"),
-        ("Ax.Xy.F", " all 1 ex 4 false"),
-        ("Ax.TIF", " all 1 implies true false"),
-        ("[Xx.T]&F", " and ex 2 true false end"),
-    ] {
-        assert_eq!(rt; answer(rt.alloc(), text)?.as_str(), want, "at {text}");
-    }
     Ok(())
 }
 
+const FORMULAS: [(&str, &str); 13] = [
+    ("T", " true"),
+    ("[F]", " false"),
+    ("!T&F", " and not true false end"),
+    ("T&F|T", " or and true false end true end"),
+    ("T|F&T", " or true and false true end end"),
+    ("T&[F&T]", " and true and false true end end"),
+    ("TIF", " implies true false"),
+    ("TEF|T", " iff true or false true end"),
+    ("[TIF]IT", " implies implies true false true"),
+    ("Xxy.T", " ex 1 ex 2 true"),
+    ("Ax.Xy.F", " all 1 ex 4 false"),
+    ("Ax.TIF", " all 1 implies true false"),
+    ("[Xx.T]&F", " and ex 2 true false end"),
+];
+
 #[test]
-fn reads_terms(rt: HostRuntime) -> Result<(), Fail> {
-    for (text, want) in [
-        ("x=1", " =1 0x 1"),
-        ("x+y-1*2<0", " <7 sum 0x +1 2x -3 product 1 *5 2 end end 0"),
-        ("-x^2>0", " >4 neg pow 2 2 1x 0"),
-        ("--xg0", " >=3 neg neg 2x 0"),
-        ("x*-yl0", " <=4 product 0x *1 neg 3x end 0"),
-        ("(x+1)*y#0", " <>7 product sum 1x +2 1 end *5 6x end 0"),
-        ("((x))=w", " =5 2x 170141183460469231731687303715884105727"),
-        ("x^h=1^k", " =3 pow 1 65535 0x pow 5 255 1"),
-        ("x^0=(x)^2", " =3 pow 1 0 0x pow 7 2 5x"),
-    ] {
-        assert_eq!(rt; answer(rt.alloc(), text)?.as_str(), want, "at {text}");
-    }
-    Ok(())
+fn reads_formulas(rt: HostRuntime) {
+    assert_eq!(rt; first_wrong(rt.alloc(), &FORMULAS), None);
+}
+
+const TERMS: [(&str, &str); 9] = [
+    ("x=1", " =1 0x 1"),
+    ("x+y-1*2<0", " <7 sum 0x +1 2x -3 product 1 *5 2 end end 0"),
+    ("-x^2>0", " >4 neg pow 2 2 1x 0"),
+    ("--xg0", " >=3 neg neg 2x 0"),
+    ("x*-yl0", " <=4 product 0x *1 neg 3x end 0"),
+    ("(x+1)*y#0", " <>7 product sum 1x +2 1 end *5 6x end 0"),
+    ("((x))=w", " =5 2x 170141183460469231731687303715884105727"),
+    ("x^h=1^k", " =3 pow 1 65535 0x pow 5 255 1"),
+    ("x^0=(x)^2", " =3 pow 1 0 0x pow 7 2 5x"),
+];
+
+#[test]
+fn reads_terms(rt: HostRuntime) {
+    assert_eq!(rt; first_wrong(rt.alloc(), &TERMS), None);
+}
+
+const FAULTS: [(&str, &str); 23] = [
+    ("", "Syntax 0"),
+    ("x", "Syntax 1"),
+    ("?", "Syntax 0"),
+    ("T?", "Syntax 1"),
+    ("x=1)", "Syntax 3"),
+    ("x=y=z", "Syntax 3"),
+    ("x^2^2=0", "Syntax 3"),
+    ("x^y=0", "Syntax 2"),
+    ("TIFIT", "Syntax 3"),
+    ("T+1", "Syntax 1"),
+    ("[T]*1", "Syntax 3"),
+    ("T&", "Syntax 2"),
+    ("T&Xx.T", "Syntax 2"),
+    ("[T", "Syntax 2"),
+    ("(x=1)", "Syntax 2"),
+    ("X.T", "Syntax 1"),
+    ("XxT", "Syntax 2"),
+    ("W=)", "Wide 0"),
+    ("x=W", "Wide 2"),
+    ("x^H=0", "Exponent 2"),
+    ("x^W=0", "Exponent 2"),
+    ("1^K=0", "Exponent 2"),
+    ("(x)^K=0", "Exponent 4"),
+];
+
+#[test]
+fn names_the_first_fault(rt: HostRuntime) {
+    assert_eq!(rt; first_wrong(rt.alloc(), &FAULTS), None);
+}
+
+// What stands before, so many times, after, and as many times behind; then the answer at 256 and at 257.
+const LEVELS: [(&str, &str, &str, &str, &str, &str); 7] = [
+    ("", "!", "T", "", "read", "TooDeep 256"),
+    ("", "[", "T", "]", "read", "TooDeep 256"),
+    ("", "(", "x", ")", "Syntax 513", "TooDeep 256"),
+    ("", "-", "x=0", "", "read", "TooDeep 256"),
+    ("X", "x", ".T", "", "read", "TooDeep 257"),
+    ("", "!", "[T]", "", "TooDeep 256", "TooDeep 256"),
+    ("", "[", "W=0", "]", "Wide 256", "TooDeep 256"),
+];
+
+fn nested(
+    alloc: Global,
+    before: &str,
+    part: &str,
+    after: &str,
+    close: &str,
+    count: u32,
+) -> Result<String, OutOfMemory> {
+    let mut out = String::from_str(alloc, before)?;
+    push_times(&mut out, part, count)?;
+    out.push_str(after)?;
+    push_times(&mut out, close, count)?;
+    answer(alloc, &out, false)
 }
 
 #[test]
-fn names_the_first_fault(rt: HostRuntime) -> Result<(), Fail> {
-    for (text, want) in [
-        ("", "Syntax 0"),
-        ("x", "Syntax 1"),
-        ("?", "Syntax 0"),
-        ("T?", "Syntax 1"),
-        ("x=1)", "Syntax 3"),
-        ("x=y=z", "Syntax 3"),
-        ("x^2^2=0", "Syntax 3"),
-        ("x^y=0", "Syntax 2"),
-        ("TIFIT", "Syntax 3"),
-        ("T+1", "Syntax 1"),
-        ("[T]*1", "Syntax 3"),
-        ("T&", "Syntax 2"),
-        ("T&Xx.T", "Syntax 2"),
-        ("[T", "Syntax 2"),
-        ("(x=1)", "Syntax 2"),
-        ("X.T", "Syntax 1"),
-        ("XxT", "Syntax 2"),
-        ("W=)", "Wide 0"),
-        ("x=W", "Wide 2"),
-        ("x^H=0", "Exponent 2"),
-        ("x^W=0", "Exponent 2"),
-        ("1^K=0", "Exponent 2"),
-        ("(x)^K=0", "Exponent 4"),
-    ] {
-        assert_eq!(rt; answer(rt.alloc(), text)?.as_str(), want, "at {text}");
-    }
-    Ok(())
-}
-
-#[test]
-fn opens_256_levels(rt: HostRuntime) -> Result<(), Fail> {
-    for (before, part, after, close, full, deep) in [
-        ("", "!", "T", "", "read", "TooDeep 256"),
-        ("", "[", "T", "]", "read", "TooDeep 256"),
-        ("", "(", "x", ")", "Syntax 513", "TooDeep 256"),
-        ("", "-", "x=0", "", "read", "TooDeep 256"),
-        ("X", "x", ".T", "", "read", "TooDeep 257"),
-        ("", "!", "[T]", "", "TooDeep 256", "TooDeep 256"),
-        ("", "[", "W=0", "]", "Wide 256", "TooDeep 256"),
-    ] {
+fn opens_256_levels(rt: HostRuntime) {
+    for (before, part, after, close, full, deep) in LEVELS {
         for (count, want) in [(256, full), (257, deep)] {
-            let mut text = repeated(rt.alloc(), before, part, count)?;
-            text.push_str(after)?;
-            for _turn in 0..count {
-                text.push_str(close)?;
-            }
-            assert_eq!(rt;
-                fault(rt.alloc(), &text)?.as_str(),
-                want,
-                "at {count} times {part}"
-            );
+            let got = nested(rt.alloc(), before, part, after, close, count);
+            assert!(rt; is_text(&got, want), "at {count} times {part}");
         }
     }
-    Ok(())
+}
+
+const BEGINNINGS: [(&str, &str); 7] = [
+    ("", "read"),
+    ("&T", "TooMany 131072"),
+    ("&x=0", "TooMany 131072"),
+    ("&-x=0", "TooMany 131072"),
+    ("&W=0", "Wide 131072"),
+    ("&)", "Syntax 131072"),
+    ("&[Xx.T]", "TooMany 131074"),
+];
+
+// The first fault of 65,536 constants and more behind them.
+fn behind_most(alloc: Global, more: &str) -> Result<String, OutOfMemory> {
+    let mut out = String::from_str(alloc, "T")?;
+    push_times(&mut out, "&T", 65_535)?;
+    out.push_str(more)?;
+    answer(alloc, &out, false)
 }
 
 #[test]
-fn counts_65536_beginnings(rt: HostRuntime) -> Result<(), Fail> {
-    let most = repeated(rt.alloc(), "T", "&T", 65_535)?;
-    for (more, want) in [
-        ("", "read"),
-        ("&T", "TooMany 131072"),
-        ("&x=0", "TooMany 131072"),
-        ("&-x=0", "TooMany 131072"),
-        ("&W=0", "Wide 131072"),
-        ("&)", "Syntax 131072"),
-        ("&[Xx.T]", "TooMany 131074"),
-    ] {
-        let text = repeated(rt.alloc(), &most, more, 1)?;
-        assert_eq!(rt; fault(rt.alloc(), &text)?.as_str(), want, "at {more}");
+fn counts_65536_beginnings(rt: HostRuntime) {
+    for (more, want) in BEGINNINGS {
+        assert!(rt; is_text(&behind_most(rt.alloc(), more), want), "at {more}");
     }
-    Ok(())
 }
