@@ -13,7 +13,6 @@ use qe_form::{Atom, Forms, Signs};
 use qe_poly::{Poly, PolyStop};
 use std::alloc::Global;
 use std::hash::{DefaultHasher, Hash, Hasher};
-use std::test::Fail;
 
 /// The sum of terms, each a number times variables, and the bits of the signs that the sum may have.
 type Row = (&'static [(i128, &'static [u32])], u8);
@@ -59,7 +58,10 @@ const CUBIC: Given = Given::One((&[(1, &[0, 0, 0])], EQUAL));
 const TOO_GREAT: Given = Given::One((&[(MOST, &[0, 0]), (MOST, &[0]), (1, &[])], EQUAL));
 
 fn coef(value: i128) -> Coef {
-    Coef::of(value).unwrap_or(Coef::zero())
+    match Coef::of(value) {
+        Some(coef) => coef,
+        None => Coef::zero(),
+    }
 }
 
 fn product(alloc: Global, number: i128, vars: &[u32]) -> Result<Poly, PolyStop> {
@@ -108,7 +110,10 @@ fn atom(alloc: Global, row: Row) -> Result<Form, PolyStop>
 fn two(alloc: Global, left: Form, right: Form) -> Result<Forms, OutOfMemory>
     ensures { IfOk result (λ fs. trees fs ≡ more (tree left) (more (tree right) no_more)) }
 {
-    Ok(Sequence::from_vec(Vec::from_array(alloc, [left, right])?))
+    let mut parts = Sequence::new(alloc);
+    parts.push(left)?;
+    parts.push(right)?;
+    Ok(parts)
 }
 
 fn pair_of(alloc: Global, is_and: bool, first: Row, second: Row) -> Result<Form, PolyStop>
@@ -181,8 +186,9 @@ fn are_these(alloc: Global, list: &[Next<Node>], wants: Wants) -> Result<bool, P
 
 fn gives(alloc: Global, x: u32, given: Given, wants: Wants) -> Result<bool, PolyStop> {
     let node = node_of(alloc, x, given)?;
-    match successors(alloc, &node) {
-        Made::Successors(list) => are_these(alloc, &list, wants),
+    let made = successors(alloc, &node);
+    match &made {
+        Made::Successors(list) => are_these(alloc, list, wants),
         _ => Ok(false),
     }
 }
@@ -212,15 +218,12 @@ const OF_ONE_OF_TWO: Wants = &[&[]];
 
 #[test]
 fn gives_successors(rt: HostRuntime) {
-    let rows = [
-        (3, GENERAL, OF_GENERAL),
-        (2, BETWEEN, OF_BETWEEN),
-        (2, ONE_OF_TWO, OF_ONE_OF_TWO),
-    ];
-    for (x, given, wants) in rows {
-        let found = gives(rt.alloc(), x, given, wants);
-        assert!(rt; matches!(found, Ok(true)));
-    }
+    let general = gives(rt.alloc(), 3, GENERAL, OF_GENERAL);
+    assert!(rt; matches!(general, Ok(true)));
+    let between = gives(rt.alloc(), 2, BETWEEN, OF_BETWEEN);
+    assert!(rt; matches!(between, Ok(true)));
+    let one_of_two = gives(rt.alloc(), 2, ONE_OF_TWO, OF_ONE_OF_TWO);
+    assert!(rt; matches!(one_of_two, Ok(true)));
 }
 
 fn fails_with(alloc: Global, given: Given, want: NodeStop) -> Result<bool, PolyStop> {
@@ -267,21 +270,25 @@ fn is_copied<N: Piece>(alloc: Global, piece: &N, rank: u64) -> bool {
     }
 }
 
-#[test]
-fn makes_and_copies_a_node(rt: HostRuntime) -> Result<(), Fail> {
-    let node = node_of(rt.alloc(), 3, GENERAL)?;
-    assert_eq!(rt; node.vars.items(), [Var(3)].as_slice());
-    assert!(rt; !node.is_leaf());
-    assert!(rt; is_copied(rt.alloc(), &node, 1));
-    Ok(())
+/// Whether the node has the variable, which occurs, and is copied.
+fn is_inner(alloc: Global, x: u32, given: Given) -> Result<bool, PolyStop> {
+    let node = node_of(alloc, x, given)?;
+    let has_it = node.vars.items() == [Var(x)].as_slice();
+    Ok(has_it && !node.is_leaf() && is_copied(alloc, &node, 1))
+}
+
+/// Whether the node is a leaf that is not true.
+fn is_other_leaf(alloc: Global, x: u32, given: Given) -> Result<bool, PolyStop> {
+    let node = node_of(alloc, x, given)?;
+    Ok(node.is_leaf() && !node.is_true())
 }
 
 #[test]
-fn leaves_out_what_does_not_occur(rt: HostRuntime) -> Result<(), Fail> {
-    let leaf = node_of(rt.alloc(), 4, GENERAL)?;
-    assert!(rt; leaf.is_leaf());
-    assert!(rt; !leaf.is_true());
-    Ok(())
+fn keeps_the_variables_that_occur(rt: HostRuntime) {
+    let inner = is_inner(rt.alloc(), 3, GENERAL);
+    assert!(rt; matches!(inner, Ok(true)));
+    let leaf = is_other_leaf(rt.alloc(), 4, GENERAL);
+    assert!(rt; matches!(leaf, Ok(true)));
 }
 
 #[derive(Drop)]
@@ -315,10 +322,15 @@ fn is_stopped<N: Piece, M: Maker<N>, T: Stop>(
     }
 }
 
+fn is_node_stopped<T: Stop>(alloc: Global, stop: &mut T) -> Result<bool, PolyStop> {
+    let node = node_of(alloc, 2, ONE_OF_TWO)?;
+    Ok(is_stopped(alloc, &Expander, &node, stop))
+}
+
 #[test]
-fn stops_when_it_is_told(rt: HostRuntime) -> Result<(), Fail> {
-    let node = node_of(rt.alloc(), 2, ONE_OF_TWO)?;
-    assert!(rt; is_stopped(rt.alloc(), &Expander, &node, &mut AtOnce));
-    assert!(rt; !is_stopped(rt.alloc(), &Expander, &node, &mut Never));
-    Ok(())
+fn stops_when_it_is_told(rt: HostRuntime) {
+    let told = is_node_stopped(rt.alloc(), &mut AtOnce);
+    assert!(rt; matches!(told, Ok(true)));
+    let free = is_node_stopped(rt.alloc(), &mut Never);
+    assert!(rt; matches!(free, Ok(false)));
 }
