@@ -1,10 +1,11 @@
-//! Nodes and their successors on small formulas.
+//! Nodes and their successors on small formulas, worked out by hand.
 
-ghost use Rattle.std.specs.Prelude.{◌≡◌, ◌<◌, ◌^◌, true, IfOk};
-ghost use Rattle.qe_form.specs.Formula.{And, Or, more, no_more};
+ghost use Rattle.std.specs.Prelude.{◌≡◌, ◌≤◌, true, IfOk};
+ghost use Rattle.qe_form.specs.Formula.{more, no_more};
 ghost use Rattle.qe_form.specs.Measures.{count};
 ghost use Rattle.qe_form.specs.Plain.{IsPlainAndProper};
-ghost use Rattle.qe_form.specs.Tree.{tree};
+ghost use Rattle.qe_form.specs.Signs.{IsProper};
+ghost use Rattle.qe_form.specs.Tree.{tree, trees};
 
 use super::*;
 use qe_coef::{Coef, Op, Wide};
@@ -12,315 +13,282 @@ use qe_form::{Atom, Forms, Signs};
 use qe_poly::{Poly, PolyStop};
 use std::alloc::Global;
 use std::hash::{DefaultHasher, Hash, Hasher};
-use std::test::Fail;
 
-fn variable(alloc: Global, number: u32) -> Result<Poly, OutOfMemory> {
-    Poly::power(alloc, Var(number), 1)
+/// The sum of terms, each a number times variables, and the bits of the signs that the sum may have.
+type Row = (&'static [(i128, &'static [u32])], u8);
+
+/// The formulas of successors, each an And of atoms.
+type Wants = &'static [&'static [Row]];
+
+const LESS: u8 = 1;
+
+const EQUAL: u8 = 2;
+
+const AT_MOST: u8 = 3;
+
+const NOT_EQUAL: u8 = 5;
+
+/// The greatest coefficient.
+const MOST: i128 = i128::MAX;
+
+/// A formula that a node is made of.
+#[derive(Clone, Copy)]
+enum Given {
+    One(Row),
+    Both(Row, Row),
+    Either(Row, Row),
 }
 
-fn whole(alloc: Global, value: i128) -> Result<Poly, OutOfMemory> {
-    Poly::constant(alloc, Coef::of(value).unwrap_or(Coef::zero()))
+/// `a*x^2 + b*x + c = 0` with `a`, `b`, `c` and `x` as the variables 0 to 3.
+const GENERAL: Given = Given::One((&[(1, &[0, 3, 3]), (1, &[1, 3]), (1, &[2])], EQUAL));
+
+/// `x > a and x < b` with `a`, `b` and `x` as the variables 0 to 2.
+const BETWEEN: Given = Given::Both(
+    (&[(1, &[0]), (-1, &[2])], LESS),
+    (&[(1, &[2]), (-1, &[1])], LESS),
+);
+
+/// `x = 0 or x = a` with `a` and `x` as the variables 0 and 2.
+const ONE_OF_TWO: Given = Given::Either((&[(1, &[2])], EQUAL), (&[(1, &[2]), (-1, &[0])], EQUAL));
+
+/// `x^3 = 0` with `x` as the variable 0.
+const CUBIC: Given = Given::One((&[(1, &[0, 0, 0])], EQUAL));
+
+/// `M*x^2 + M*x + 1 = 0` with `x` as the variable 0.
+const TOO_GREAT: Given = Given::One((&[(MOST, &[0, 0]), (MOST, &[0]), (1, &[])], EQUAL));
+
+fn coef(value: i128) -> Coef {
+    match Coef::of(value) {
+        Some(coef) => coef,
+        None => Coef::zero(),
+    }
 }
 
-// a*x^2 + b*x + c
-fn quadratic(alloc: Global, x: u32, a: &Poly, b: &Poly, c: &Poly) -> Result<Poly, PolyStop> {
-    let square = a.mul(alloc, &Poly::power(alloc, Var(x), 2)?)?;
-    let line = b.mul(alloc, &variable(alloc, x)?)?;
-    square.add(alloc, &line)?.add(alloc, c)
+fn product(alloc: Global, number: i128, vars: &[u32]) -> Result<Poly, PolyStop> {
+    let mut product = Poly::constant(alloc, coef(number))?;
+    for var in vars {
+        product = product.mul(alloc, &Poly::power(alloc, Var(*var), 1)?)?;
+    }
+    Ok(product)
 }
 
-fn equal(poly: Poly) -> Form
+fn sum(alloc: Global, terms: &[(i128, &[u32])]) -> Result<Poly, PolyStop> {
+    let mut sum = Poly::constant(alloc, Coef::zero())?;
+    for (number, vars) in terms {
+        sum = sum.add(alloc, &product(alloc, *number, vars)?)?;
+    }
+    Ok(sum)
+}
+
+fn signs_of(bits: u8) -> Signs
+    ensures { IsProper result }
+{
+    match bits {
+        EQUAL => Signs::of(false, true, false),
+        AT_MOST => Signs::of(true, true, false),
+        NOT_EQUAL => Signs::of(true, false, true),
+        _ => Signs::of(true, false, false),
+    }
+}
+
+fn atom_of(poly: Poly, bits: u8) -> Form
     ensures proper { IsPlainAndProper (tree result) }
     ensures small { count (tree result) ≡ 1 }
 {
-    Form::Atom(Atom {
-        poly,
-        signs: Signs::of(false, true, false),
-    })
+    let signs = signs_of(bits);
+    Form::Atom(Atom { poly, signs })
 }
 
-fn not_equal(poly: Poly) -> Form {
-    Form::Atom(Atom {
-        poly,
-        signs: Signs::of(true, false, true),
-    })
-}
-
-fn below(poly: Poly) -> Form
-    ensures proper { IsPlainAndProper (tree result) }
-    ensures small { count (tree result) ≡ 1 }
+fn atom(alloc: Global, row: Row) -> Result<Form, PolyStop>
+    ensures proper { IfOk result (λ f. IsPlainAndProper (tree f)) }
+    ensures small { IfOk result (λ f. count (tree f) ≡ 1) }
 {
-    Form::Atom(Atom {
-        poly,
-        signs: Signs::of(true, false, false),
-    })
+    let (terms, bits) = row;
+    Ok(atom_of(sum(alloc, terms)?, bits))
 }
 
-fn pair(alloc: Global, left: Form, right: Form) -> Result<Forms, OutOfMemory> {
+fn two(alloc: Global, left: Form, right: Form) -> Result<Forms, OutOfMemory>
+    ensures { IfOk result (λ fs. trees fs ≡ more (tree left) (more (tree right) no_more)) }
+{
     let mut parts = Sequence::new(alloc);
     parts.push(left)?;
     parts.push(right)?;
     Ok(parts)
 }
 
-fn all_of(alloc: Global, left: Form, right: Form) -> Result<Form, OutOfMemory>
-    ensures { IfOk result (λ f. tree f ≡ And (more (tree left) (more (tree right) no_more))) }
+fn pair_of(alloc: Global, is_and: bool, first: Row, second: Row) -> Result<Form, PolyStop>
+    ensures proper { IfOk result (λ f. IsPlainAndProper (tree f)) }
+    ensures small { IfOk result (λ f. count (tree f) ≡ 2) }
 {
+    let left = atom(alloc, first)?;
+    let right = atom(alloc, second)?;
+    let parts = two(alloc, left, right)?;
+    if is_and {
+        Ok(Form::And(parts))
+    } else {
+        Ok(Form::Or(parts))
+    }
+}
+
+fn form_of(alloc: Global, given: Given) -> Result<Form, PolyStop>
+    ensures proper { IfOk result (λ f. IsPlainAndProper (tree f)) }
+    ensures small { IfOk result (λ f. count (tree f) ≤ 2) }
+{
+    match given {
+        Given::One(row) => atom(alloc, row),
+        Given::Both(left, right) => pair_of(alloc, true, left, right),
+        Given::Either(left, right) => pair_of(alloc, false, left, right),
+    }
+}
+
+/// The node of a formula with one variable.
+fn node_of(alloc: Global, x: u32, given: Given) -> Result<Node, PolyStop> {
+    let form = form_of(alloc, given)?;
+    Ok(root(alloc, &[Var(x)], form)?)
+}
+
+fn atoms(alloc: Global, rows: &'static [Row]) -> Result<Forms, PolyStop> {
     let mut parts = Sequence::new(alloc);
-    parts.push(left)?;
-    parts.push(right)?;
-    Ok(Form::And(parts))
+    for row in rows {
+        parts.push(atom(alloc, *row)?)?;
+    }
+    Ok(parts)
 }
 
-fn any_of(alloc: Global, left: Form, right: Form) -> Result<Form, OutOfMemory>
-    ensures { IfOk result (λ f. tree f ≡ Or (more (tree left) (more (tree right) no_more))) }
-{
-    let mut parts = Sequence::new(alloc);
-    parts.push(left)?;
-    parts.push(right)?;
-    Ok(Form::Or(parts))
+/// The And of the atoms: an atom where there is one, and True where there is none.
+fn joined(alloc: Global, rows: &'static [Row]) -> Result<Form, PolyStop> {
+    match rows {
+        [] => Ok(Form::True),
+        [row] => atom(alloc, *row),
+        _ => Ok(Form::And(atoms(alloc, rows)?)),
+    }
 }
 
-// The node of a formula with one variable.
-fn node_in(alloc: Global, x: u32, form: Form) -> Result<Node, OutOfMemory>
-    requires proper { IsPlainAndProper (tree form) }
-    requires small { count (tree form) < 2 ^ 50 }
-{
-    root(alloc, &[Var(x)], form)
-}
-
-// The successor at this place has this number and this formula, and no variables.
-fn is_at(list: &[Next<Node>], place: usize, point: u64, form: &Form) -> bool {
+/// The successor at this place has this number and this formula, and no variables.
+fn is_at(list: &[Next<Node>], place: usize, form: &Form) -> bool {
     match list.get(place) {
-        Some(next) => next.point == point && next.piece.form == *form && next.piece.is_leaf(),
+        Some(next) => next.point == place as u64
+            && next.piece.form == *form
+            && next.piece.is_leaf(),
         None => false,
     }
 }
 
-fn list_of(made: Made<Node>) -> Option<Vec<Next<Node>>> {
-    match made {
-        Made::Successors(list) => Some(list),
-        _ => None,
-    }
-}
-
-fn fails_with(made: &Made<Node>, want: NodeStop) -> bool {
-    match made {
-        Made::Failed(stop) => *stop == want,
-        _ => false,
-    }
-}
-
-// What becomes of a piece that is no leaf.
-fn made_by<N: Piece, M: Maker<N>, T: Stop>(
-    alloc: Global,
-    maker: &M,
-    piece: &N,
-    stop: &mut T,
-) -> Option<Made<N>> {
-    if piece.is_leaf() {
-        return None;
-    }
-    Some(maker.expand(alloc, piece, stop))
-}
-
-fn was_stopped(made: &Option<Made<Node>>) -> bool {
-    match made {
-        Some(Made::Stopped) => true,
-        _ => false,
-    }
-}
-
-fn hash_of(node: &Node) -> u64 {
-    let mut state = DefaultHasher::new();
-    node.hash(&mut state);
-    state.finish()
-}
-
-// a*x^2 + b*x + c = 0 with a, b, c, x as the variables 0 to 3
-fn general(alloc: Global) -> Result<Form, PolyStop>
-    ensures proper { IfOk result (λ f. IsPlainAndProper (tree f)) }
-    ensures small { IfOk result (λ f. count (tree f) ≡ 1) }
-{
-    let a = variable(alloc, 0)?;
-    let b = variable(alloc, 1)?;
-    let c = variable(alloc, 2)?;
-    Ok(equal(quadratic(alloc, 3, &a, &b, &c)?))
-}
-
-// 4*a*c - b^2 <= 0 and a <> 0
-fn square_guard(alloc: Global) -> Result<Form, PolyStop> {
-    let a = variable(alloc, 0)?;
-    let b = variable(alloc, 1)?;
-    let four = whole(alloc, 4)?;
-    let product = four.mul(alloc, &a)?.mul(alloc, &variable(alloc, 2)?)?;
-    let poly = product.sub(alloc, &b.mul(alloc, &b)?)?;
-    let at_most = Form::Atom(Atom {
-        poly,
-        signs: Signs::of(true, true, false),
-    });
-    Ok(Form::And(pair(alloc, at_most, not_equal(a))?))
-}
-
-// a = 0 and b <> 0
-fn linear_guard(alloc: Global) -> Result<Form, OutOfMemory> {
-    let a = equal(variable(alloc, 0)?);
-    let b = not_equal(variable(alloc, 1)?);
-    Ok(Form::And(pair(alloc, a, b)?))
-}
-
-// a = 0 and b = 0 and c = 0
-fn all_zero(alloc: Global) -> Result<Form, OutOfMemory> {
-    let a = equal(variable(alloc, 0)?);
-    let b = equal(variable(alloc, 1)?);
-    let mut parts = pair(alloc, a, b)?;
-    parts.push(equal(variable(alloc, 2)?))?;
-    Ok(Form::And(parts))
-}
-
-// The formulas of the successors of the general equation.
-fn general_successors(alloc: Global) -> Result<Vec<Form>, PolyStop> {
-    let mut forms = Vec::new(alloc);
-    forms.push(linear_guard(alloc)?)?;
-    forms.push(square_guard(alloc)?)?;
-    forms.push(square_guard(alloc)?)?;
-    forms.push(all_zero(alloc)?)?;
-    Ok(forms)
-}
-
-// The successors have these formulas, with the numbers from 0 on, and no variables.
-fn are_these(list: &[Next<Node>], forms: &[Form]) -> bool {
-    for (place, form) in forms.iter().enumerate() {
-        if !is_at(list, place, place as u64, form) {
-            return false;
+/// The successors have these formulas, with the numbers from 0 on, and no variables.
+fn are_these(alloc: Global, list: &[Next<Node>], wants: Wants) -> Result<bool, PolyStop> {
+    for (place, want) in wants.iter().enumerate() {
+        if !is_at(list, place, &joined(alloc, want)?) {
+            return Ok(false);
         }
     }
-    list.len() == forms.len()
+    Ok(list.len() == wants.len())
 }
+
+fn gives(alloc: Global, x: u32, given: Given, wants: Wants) -> Result<bool, PolyStop> {
+    let node = node_of(alloc, x, given)?;
+    let made = successors(alloc, &node);
+    match &made {
+        Made::Successors(list) => are_these(alloc, list, wants),
+        _ => Ok(false),
+    }
+}
+
+const OF_GENERAL: Wants = &[
+    &[(&[(1, &[0])], EQUAL), (&[(1, &[1])], NOT_EQUAL)],
+    &[
+        (&[(4, &[0, 2]), (-1, &[1, 1])], AT_MOST),
+        (&[(1, &[0])], NOT_EQUAL),
+    ],
+    &[
+        (&[(4, &[0, 2]), (-1, &[1, 1])], AT_MOST),
+        (&[(1, &[0])], NOT_EQUAL),
+    ],
+    &[
+        (&[(1, &[0])], EQUAL),
+        (&[(1, &[1])], EQUAL),
+        (&[(1, &[2])], EQUAL),
+    ],
+];
+
+/// `a < b`.
+const OF_BETWEEN: Wants = &[&[(&[(1, &[0]), (-1, &[1])], LESS)]];
+
+/// True ends the list.
+const OF_ONE_OF_TWO: Wants = &[&[]];
 
 #[test]
-fn makes_a_node(rt: HostRuntime) -> Result<(), Fail> {
-    let node = node_in(rt.alloc(), 3, general(rt.alloc())?)?;
-    assert_eq!(rt; node.vars.items(), [Var(3)].as_slice());
-    assert_eq!(rt; node.rank(), 1);
-    assert!(rt; !node.is_leaf());
-    Ok(())
+fn gives_successors(rt: HostRuntime) {
+    let general = gives(rt.alloc(), 3, GENERAL, OF_GENERAL);
+    assert!(rt; matches!(general, Ok(true)));
+    let between = gives(rt.alloc(), 2, BETWEEN, OF_BETWEEN);
+    assert!(rt; matches!(between, Ok(true)));
+    let one_of_two = gives(rt.alloc(), 2, ONE_OF_TWO, OF_ONE_OF_TWO);
+    assert!(rt; matches!(one_of_two, Ok(true)));
 }
 
-#[test]
-fn copies_a_node(rt: HostRuntime) -> Result<(), Fail> {
-    let node = node_in(rt.alloc(), 3, general(rt.alloc())?)?;
-    let copy = node.copy(rt.alloc())?;
-    assert!(rt; copy == node);
-    assert_eq!(rt; hash_of(&copy), hash_of(&node));
-    Ok(())
+fn fails_with(alloc: Global, given: Given, want: NodeStop) -> Result<bool, PolyStop> {
+    let node = node_of(alloc, 0, given)?;
+    match successors(alloc, &node) {
+        Made::Failed(stop) => Ok(stop == want),
+        _ => Ok(false),
+    }
 }
 
-#[test]
-fn leaves_out_what_does_not_occur(rt: HostRuntime) -> Result<(), Fail> {
-    let leaf = node_in(rt.alloc(), 4, general(rt.alloc())?)?;
-    assert!(rt; leaf.is_leaf());
-    assert!(rt; !leaf.is_true());
-    Ok(())
-}
-
-#[test]
-fn solves_a_quadratic_equation(rt: HostRuntime) -> Result<(), Fail> {
-    let node = node_in(rt.alloc(), 3, general(rt.alloc())?)?;
-    let list = list_of(successors(rt.alloc(), &node)).ok_or("fails")?;
-    let want = general_successors(rt.alloc())?;
-    assert!(rt; are_these(&list, &want));
-    Ok(())
-}
-
-// x > a and x < b with a, b, x as the variables 0 to 2
-fn between(alloc: Global) -> Result<Form, PolyStop>
-    ensures proper { IfOk result (λ f. IsPlainAndProper (tree f)) }
-    ensures small { IfOk result (λ f. count (tree f) ≡ 2) }
-{
-    let x = variable(alloc, 2)?;
-    let low = below(variable(alloc, 0)?.sub(alloc, &x)?);
-    let high = below(x.sub(alloc, &variable(alloc, 1)?)?);
-    Ok(all_of(alloc, low, high)?)
-}
-
-// a < b
-fn less(alloc: Global) -> Result<Form, PolyStop> {
-    let a = variable(alloc, 0)?;
-    let b = variable(alloc, 1)?;
-    Ok(below(a.sub(alloc, &b)?))
-}
-
-#[test]
-fn finds_a_number_between(rt: HostRuntime) -> Result<(), Fail> {
-    let node = node_in(rt.alloc(), 2, between(rt.alloc())?)?;
-    let list = list_of(successors(rt.alloc(), &node)).ok_or("fails")?;
-    let less = less(rt.alloc())?;
-    assert_eq!(rt; list.len(), 1);
-    assert!(rt; is_at(&list, 0, 0, &less));
-    Ok(())
-}
-
-// x = 0 or x = a
-fn one_of_two(alloc: Global) -> Result<Form, PolyStop>
-    ensures proper { IfOk result (λ f. IsPlainAndProper (tree f)) }
-    ensures small { IfOk result (λ f. count (tree f) ≡ 2) }
-{
-    let x = variable(alloc, 2)?;
-    let other = equal(x.sub(alloc, &variable(alloc, 0)?)?);
-    let first = equal(x);
-    Ok(any_of(alloc, first, other)?)
-}
-
-#[test]
-fn ends_after_the_first_true_successor(rt: HostRuntime) -> Result<(), Fail> {
-    let node = node_in(rt.alloc(), 2, one_of_two(rt.alloc())?)?;
-    let list = list_of(successors(rt.alloc(), &node)).ok_or("fails")?;
-    assert_eq!(rt; list.len(), 1);
-    assert!(rt; is_at(&list, 0, 0, &Form::True));
-    Ok(())
-}
-
-// M*x^2 + M*x + 1 = 0, where M is the greatest coefficient
-fn too_great(alloc: Global) -> Result<Form, PolyStop>
-    ensures proper { IfOk result (λ f. IsPlainAndProper (tree f)) }
-    ensures small { IfOk result (λ f. count (tree f) ≡ 1) }
-{
-    let greatest = whole(alloc, i128::MAX)?;
-    let one = whole(alloc, 1)?;
-    Ok(equal(quadratic(alloc, 0, &greatest, &greatest, &one)?))
-}
-
-#[test]
-fn fails_at_a_high_degree(rt: HostRuntime) -> Result<(), Fail> {
-    let cubic = equal(Poly::power(rt.alloc(), Var(0), 3)?);
-    let node = node_in(rt.alloc(), 0, cubic)?;
-    let made = successors(rt.alloc(), &node);
-    assert!(rt; fails_with(&made, NodeStop::DegreeExcess));
-    Ok(())
-}
-
-// At candidate 1 the guard of atom 0 has M*M.
+/// At candidate 1 the guard of atom 0 has `M*M`.
 fn limit_of_the_square() -> NodeStop {
-    let greatest = Coef::of(i128::MAX).unwrap_or(Coef::zero());
     NodeStop::Limit {
         point: 1,
         atom: 0,
         stage: Stage::Guard,
         limit: PolyLimit::Coefficient(Wide {
             op: Op::Mul,
-            left: greatest,
-            right: greatest,
+            left: coef(MOST),
+            right: coef(MOST),
         }),
     }
 }
 
 #[test]
-fn fails_at_a_limit(rt: HostRuntime) -> Result<(), Fail> {
-    let node = node_in(rt.alloc(), 0, too_great(rt.alloc())?)?;
-    let made = successors(rt.alloc(), &node);
-    assert!(rt; fails_with(&made, limit_of_the_square()));
-    Ok(())
+fn fails(rt: HostRuntime) {
+    let high = fails_with(rt.alloc(), CUBIC, NodeStop::DegreeExcess);
+    assert!(rt; matches!(high, Ok(true)));
+    let great = fails_with(rt.alloc(), TOO_GREAT, limit_of_the_square());
+    assert!(rt; matches!(great, Ok(true)));
+}
+
+fn hash_of<N: Hash>(piece: &N) -> u64 {
+    let mut state = DefaultHasher::new();
+    piece.hash(&mut state);
+    state.finish()
+}
+
+/// Whether a copy of the piece is equal to it, with the same hash and with this rank.
+fn is_copied<N: Piece>(alloc: Global, piece: &N, rank: u64) -> bool {
+    match piece.copy(alloc) {
+        Ok(copy) => copy == *piece && hash_of(&copy) == hash_of(piece) && copy.rank() == rank,
+        Err(_) => false,
+    }
+}
+
+/// Whether the node has the variable, which occurs, and is copied.
+fn is_inner(alloc: Global, x: u32, given: Given) -> Result<bool, PolyStop> {
+    let node = node_of(alloc, x, given)?;
+    let has_it = node.vars.items() == [Var(x)].as_slice();
+    Ok(has_it && !node.is_leaf() && is_copied(alloc, &node, 1))
+}
+
+/// Whether the node is a leaf that is not true.
+fn is_other_leaf(alloc: Global, x: u32, given: Given) -> Result<bool, PolyStop> {
+    let node = node_of(alloc, x, given)?;
+    Ok(node.is_leaf() && !node.is_true())
+}
+
+#[test]
+fn keeps_the_variables_that_occur(rt: HostRuntime) {
+    let inner = is_inner(rt.alloc(), 3, GENERAL);
+    assert!(rt; matches!(inner, Ok(true)));
+    let leaf = is_other_leaf(rt.alloc(), 4, GENERAL);
+    assert!(rt; matches!(leaf, Ok(true)));
 }
 
 #[derive(Drop)]
@@ -338,12 +306,31 @@ impl Stop for AtOnce {
     }
 }
 
+/// Whether the stop is told first, where the piece is no leaf.
+fn is_stopped<N: Piece, M: Maker<N>, T: Stop>(
+    alloc: Global,
+    maker: &M,
+    piece: &N,
+    stop: &mut T,
+) -> bool {
+    if piece.is_leaf() {
+        return false;
+    }
+    match maker.expand(alloc, piece, stop) {
+        Made::Stopped => true,
+        _ => false,
+    }
+}
+
+fn is_node_stopped<T: Stop>(alloc: Global, stop: &mut T) -> Result<bool, PolyStop> {
+    let node = node_of(alloc, 2, ONE_OF_TWO)?;
+    Ok(is_stopped(alloc, &Expander, &node, stop))
+}
+
 #[test]
-fn stops_when_it_is_told(rt: HostRuntime) -> Result<(), Fail> {
-    let node = node_in(rt.alloc(), 2, one_of_two(rt.alloc())?)?;
-    let told = made_by(rt.alloc(), &Expander, &node, &mut AtOnce);
-    assert!(rt; was_stopped(&told));
-    let free = made_by(rt.alloc(), &Expander, &node, &mut Never);
-    assert!(rt; !was_stopped(&free));
-    Ok(())
+fn stops_when_it_is_told(rt: HostRuntime) {
+    let told = is_node_stopped(rt.alloc(), &mut AtOnce);
+    assert!(rt; matches!(told, Ok(true)));
+    let free = is_node_stopped(rt.alloc(), &mut Never);
+    assert!(rt; matches!(free, Ok(false)));
 }

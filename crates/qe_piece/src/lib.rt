@@ -5,8 +5,6 @@
 mod maker;
 mod piece;
 mod stop;
-#[cfg(test)]
-mod tests;
 
 pub use maker::{Made, Maker, Next};
 pub use piece::Piece;
