@@ -3,4 +3,6 @@
 #![tactic(auto)]
 
 #[cfg(test)]
+mod nodes;
+#[cfg(test)]
 mod polynomials;

@@ -8,8 +8,6 @@ mod node;
 mod piece;
 mod start;
 mod stop;
-#[cfg(test)]
-mod tests;
 mod trial;
 
 pub use growth::{expand, successors};

@@ -5,8 +5,6 @@
 mod formula;
 mod name;
 mod polynomial;
-#[cfg(test)]
-mod tests;
 
 pub use formula::form_text;
 pub use name::name_text;

@@ -7,8 +7,6 @@ mod fault;
 mod formula;
 pub mod laws;
 mod term;
-#[cfg(test)]
-mod tests;
 mod text;
 mod tree;
 

@@ -1,7 +1,7 @@
-use qe_print::{form_text, name_text, poly_text};
 use qe_coef::Coef;
 use qe_form::{Atom, Form, Forms, Names, Poly, Sequence, Signs, Var};
 use qe_poly::PolyStop;
+use qe_print::{form_text, name_text, poly_text};
 use std::alloc::{AllocError, Global};
 use std::test::Fail;
 

@@ -8,5 +8,3 @@ pub use scan::tokens;
 pub use std::alloc::AllocError as OutOfMemory;
 pub use token::{Located, Name, Relation, Token};
 
-#[cfg(test)]
-mod tests;

@@ -1,6 +1,6 @@
 //! Texts of tokens, a byte a token, with the tree or the first fault that each has by hand.
 
-use crate::{
+use qe_syntax::{
     Addend, Comparison, Factor, Formula, Located, Name, OutOfMemory, ParseStop, Relation, Sequence,
     Term, TextFault, Token, parse,
 };

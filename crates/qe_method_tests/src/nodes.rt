@@ -7,9 +7,12 @@ ghost use Rattle.qe_form.specs.Plain.{IsPlainAndProper};
 ghost use Rattle.qe_form.specs.Signs.{IsProper};
 ghost use Rattle.qe_form.specs.Tree.{tree, trees};
 
-use super::*;
 use qe_coef::{Coef, Op, Wide};
 use qe_form::{Atom, Forms, Signs};
+use qe_node::{
+    Expander, Form, Made, Maker, Never, Next, Node, NodeStop, OutOfMemory, Piece, PolyLimit,
+    Sequence, Stage, Stop, Var, Vars, expand, root, successors,
+};
 use qe_poly::{Poly, PolyStop};
 use std::alloc::Global;
 use std::hash::{DefaultHasher, Hash, Hasher};
