@@ -6,3 +6,5 @@
 mod nodes;
 #[cfg(test)]
 mod polynomials;
+#[cfg(test)]
+mod roots;

@@ -8,8 +8,6 @@ mod free_names;
 mod occurrence;
 mod reader;
 mod scope;
-#[cfg(test)]
-mod tests;
 mod value;
 
 pub use fault::ReadFault;

@@ -6,8 +6,6 @@ mod form;
 pub mod laws;
 mod point;
 mod stop;
-#[cfg(test)]
-mod tests;
 mod value;
 
 pub use form::sign_form;

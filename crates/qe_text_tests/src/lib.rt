@@ -7,4 +7,6 @@ mod grammar;
 #[cfg(test)]
 mod printer;
 #[cfg(test)]
+mod reader;
+#[cfg(test)]
 mod tokens;

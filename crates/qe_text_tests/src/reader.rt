@@ -1,8 +1,8 @@
 //! Texts with what each is read as, or its first fault, worked out by hand from the rules.
 
-use crate::{Input, OutOfMemory, ReadFault, read};
 use qe_coef::Op;
 use qe_form::{Form, Forms, Poly};
+use qe_read::{Input, OutOfMemory, ReadFault, read};
 use std::alloc::Global;
 use std::fmt::Write;
 

@@ -1,10 +1,10 @@
 //! Values at roots and formulas for signs, worked out by hand. The variables are `a`, `b`, `c` and `x`, numbered from 0.
 
-use crate::{
-    Form, Forms, OutOfMemory, Poly, PolyLimit, PolyStop, RootPoint, Signs, Var, at_root, sign_form,
-};
 use qe_coef::{Coef, Op, Wide};
 use qe_poly::Term;
+use qe_root::{
+    Form, Forms, OutOfMemory, Poly, PolyLimit, PolyStop, RootPoint, Signs, Var, at_root, sign_form,
+};
 use std::alloc::Global;
 use std::fmt::Write;
 
