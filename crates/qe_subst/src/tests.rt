@@ -2,6 +2,7 @@
 
 ghost use Rattle.std.specs.Prelude.{◌≡◌, ◌≤◌, IfOk, max};
 ghost use Rattle.qe_form.specs.Measures.{degree};
+ghost use Rattle.qe_poly.specs.Coefficients.{degree_in};
 ghost use Rattle.qe_form.specs.Plain.{IsPlainAndProper};
 ghost use Rattle.qe_form.specs.Tree.{tree};
 
@@ -34,36 +35,53 @@ const B: Linear = [0, 1, 0, 0];
 
 const C: Linear = [0, 0, 1, 0];
 
+const MINUS_A: Linear = [-1, 0, 0, 0];
+
+const MINUS_B: Linear = [0, -1, 0, 0];
+
+const TWICE_B: Linear = [0, 2, 0, 0];
+
+const TWO: Linear = [0, 0, 0, 2];
+
+const GREATEST: Linear = [0, 0, 0, MOST];
+
 fn coef(value: i128) -> Coef {
     Coef::of(value).unwrap_or(Coef::zero())
 }
 
+/// The sum with `value` times the variable.
+fn with_term(alloc: Global, sum: &Poly, value: i128, var: u32) -> Result<Poly, PolyStop> {
+    let term = Poly::power(alloc, Var(var), 1)?.scale(alloc, coef(value))?;
+    sum.add(alloc, &term)
+}
+
 fn linear(alloc: Global, numbers: Linear) -> Result<Poly, PolyStop> {
-    let a = Poly::power(alloc, Var(0), 1)?.scale(alloc, coef(numbers[0]))?;
-    let b = Poly::power(alloc, Var(1), 1)?.scale(alloc, coef(numbers[1]))?;
-    let c = Poly::power(alloc, Var(2), 1)?.scale(alloc, coef(numbers[2]))?;
     let number = Poly::constant(alloc, coef(numbers[3]))?;
-    a.add(alloc, &b)?.add(alloc, &c)?.add(alloc, &number)
+    let c = with_term(alloc, &number, numbers[2], 2)?;
+    let b = with_term(alloc, &c, numbers[1], 1)?;
+    with_term(alloc, &b, numbers[0], 0)
+}
+
+/// `value*x` with that sum of `a`, `b`, `c` and a number.
+fn next(alloc: Global, value: &Poly, numbers: Linear) -> Result<Poly, PolyStop> {
+    let product = value.mul(alloc, &Poly::power(alloc, X, 1)?)?;
+    product.add(alloc, &linear(alloc, numbers)?)
 }
 
 /// The polynomial in `x` with the three coefficients.
 fn quadratic(alloc: Global, coefficients: [Linear; 3]) -> Result<Poly, PolyStop> {
-    let x = Poly::power(alloc, X, 1)?;
-    let square = linear(alloc, coefficients[0])?.mul(alloc, &x)?;
-    let line = square
-        .add(alloc, &linear(alloc, coefficients[1])?)?
-        .mul(alloc, &x)?;
-    line.add(alloc, &linear(alloc, coefficients[2])?)
+    let square = linear(alloc, coefficients[0])?;
+    let line = next(alloc, &square, coefficients[1])?;
+    next(alloc, &line, coefficients[2])
 }
 
 /// The root `(p + q*sqrt(r))/s`.
 fn root(alloc: Global, parts: [Linear; 4]) -> Result<RootPoint, PolyStop> {
-    Ok(RootPoint {
-        p: linear(alloc, parts[0])?,
-        q: linear(alloc, parts[1])?,
-        r: linear(alloc, parts[2])?,
-        s: linear(alloc, parts[3])?,
-    })
+    let p = linear(alloc, parts[0])?;
+    let q = linear(alloc, parts[1])?;
+    let r = linear(alloc, parts[2])?;
+    let s = linear(alloc, parts[3])?;
+    Ok(RootPoint { p, q, r, s })
 }
 
 /// A term without its sign, as `2*a^2*b`.
@@ -232,6 +250,17 @@ fn point_of(alloc: Global, parts: [Linear; 4], plus: bool) -> Result<Point, Poly
     }
 }
 
+/// What stands for an atom at the point.
+fn poly_text(
+    alloc: Global,
+    coefficients: [Linear; 3],
+    bits: u8,
+    point: &Point,
+) -> Result<String, PolyStop> {
+    let poly = quadratic(alloc, coefficients)?;
+    Ok(atom_text(alloc, poly, bits, point, None)?)
+}
+
 /// What stands for an atom at a root, or just above it.
 fn root_text(
     alloc: Global,
@@ -241,14 +270,7 @@ fn root_text(
     plus: bool,
 ) -> Result<String, PolyStop> {
     let point = point_of(alloc, parts, plus)?;
-    let poly = quadratic(alloc, coefficients)?;
-    Ok(atom_text(alloc, poly, bits, &point, None)?)
-}
-
-/// What stands for an atom below all numbers.
-fn below_text(alloc: Global, coefficients: [Linear; 3], bits: u8) -> Result<String, PolyStop> {
-    let poly = quadratic(alloc, coefficients)?;
-    Ok(atom_text(alloc, poly, bits, &Point::MinusInf, None)?)
+    poly_text(alloc, coefficients, bits, &point)
 }
 
 /// What stands for an atom at 0, or just above it, as the root of 2*b*x.
@@ -258,234 +280,252 @@ fn own_text(
     bits: u8,
     plus: bool,
 ) -> Result<String, PolyStop> {
-    let own = quadratic(alloc, [ZERO, [0, 2, 0, 0], ZERO])?;
-    let point = point_of(alloc, [ZERO, ZERO, ZERO, [0, 2, 0, 0]], plus)?;
+    let own = quadratic(alloc, [ZERO, TWICE_B, ZERO])?;
+    let point = point_of(alloc, [ZERO, ZERO, ZERO, TWICE_B], plus)?;
     let poly = quadratic(alloc, coefficients)?;
     Ok(atom_text(alloc, poly, bits, &point, Some(&own))?)
 }
 
-// At a, a root without a square root, and just above it: the coefficients of x^2, x and 1, the relation, and what stands for the atom.
-#[test]
-fn substitutes_a_quotient(rt: HostRuntime) -> Result<(), Fail> {
-    let alloc = rt.alloc();
-    let parts = [A, ZERO, ZERO, ONE];
-    let minus_b = [0, -1, 0, 0];
-    for (coefficients, bits, plus, want) in [
-        // x - b
-        ([ZERO, ONE, minus_b], LESS, false, "a - b < 0"),
-        ([ZERO, ONE, minus_b], AT_MOST, false, "a - b <= 0"),
-        ([ZERO, ONE, minus_b], EQUAL, false, "a - b = 0"),
-        ([ZERO, ONE, minus_b], NOT_EQUAL, false, "a - b <> 0"),
-        ([ZERO, ONE, minus_b], AT_LEAST, false, "a - b >= 0"),
-        ([ZERO, ONE, minus_b], MORE, false, "a - b > 0"),
-        (
-            [ZERO, ONE, minus_b],
-            LESS,
-            true,
-            "[a - b < 0 or [a - b = 0 and 1 < 0]]",
-        ),
-        (
-            [ZERO, ONE, minus_b],
-            AT_MOST,
-            true,
-            "[a - b < 0 or [a - b = 0 and 1 <= 0]]",
-        ),
-        ([ZERO, ONE, minus_b], EQUAL, true, "[1 = 0 and -b = 0]"),
-        ([ZERO, ONE, minus_b], NOT_EQUAL, true, "[1 <> 0 or -b <> 0]"),
-        (
-            [ZERO, ONE, minus_b],
-            AT_LEAST,
-            true,
-            "[a - b > 0 or [a - b = 0 and 1 >= 0]]",
-        ),
-        (
-            [ZERO, ONE, minus_b],
-            MORE,
-            true,
-            "[a - b > 0 or [a - b = 0 and 1 > 0]]",
-        ),
-        // b*x^2 + c: its slopes are 2*b*x and 2*b
-        ([B, ZERO, C], LESS, false, "a^2*b + c < 0"),
-        ([B, ZERO, C], EQUAL, true, "[b = 0 and 0 = 0 and c = 0]"),
-        (
-            [B, ZERO, C],
-            NOT_EQUAL,
-            true,
-            "[b <> 0 or 0 <> 0 or c <> 0]",
-        ),
-        (
-            [B, ZERO, C],
-            LESS,
-            true,
-            "[a^2*b + c < 0 or [a^2*b + c = 0 and [2*a*b < 0 or [2*a*b = 0 and 2*b < 0]]]]",
-        ),
-        (
-            [B, ZERO, C],
-            AT_LEAST,
-            true,
-            "[a^2*b + c > 0 or [a^2*b + c = 0 and [2*a*b > 0 or [2*a*b = 0 and 2*b >= 0]]]]",
-        ),
-        // an atom without x stays
-        ([ZERO, ZERO, B], MORE, false, "b > 0"),
-        ([ZERO, ZERO, B], MORE, true, "b > 0"),
-    ] {
-        let text = root_text(alloc, coefficients, bits, parts, plus)?;
-        assert_eq!(rt; text.as_str(), want);
+/// Whether it is this text.
+fn is_text(found: Result<String, PolyStop>, want: &str) -> bool {
+    match found {
+        Ok(text) => text.as_str() == want,
+        Err(_) => false,
     }
-    Ok(())
+}
+
+// At a, a root without a square root, and just above it: the coefficients of x^2, x and 1, the relation, and what stands for the atom.
+const AT_A: &[([Linear; 3], u8, bool, &str)] = &[
+    // x - b
+    ([ZERO, ONE, MINUS_B], LESS, false, "a - b < 0"),
+    ([ZERO, ONE, MINUS_B], AT_MOST, false, "a - b <= 0"),
+    ([ZERO, ONE, MINUS_B], EQUAL, false, "a - b = 0"),
+    ([ZERO, ONE, MINUS_B], NOT_EQUAL, false, "a - b <> 0"),
+    ([ZERO, ONE, MINUS_B], AT_LEAST, false, "a - b >= 0"),
+    ([ZERO, ONE, MINUS_B], MORE, false, "a - b > 0"),
+    (
+        [ZERO, ONE, MINUS_B],
+        LESS,
+        true,
+        "[a - b < 0 or [a - b = 0 and 1 < 0]]",
+    ),
+    (
+        [ZERO, ONE, MINUS_B],
+        AT_MOST,
+        true,
+        "[a - b < 0 or [a - b = 0 and 1 <= 0]]",
+    ),
+    ([ZERO, ONE, MINUS_B], EQUAL, true, "[1 = 0 and -b = 0]"),
+    ([ZERO, ONE, MINUS_B], NOT_EQUAL, true, "[1 <> 0 or -b <> 0]"),
+    (
+        [ZERO, ONE, MINUS_B],
+        AT_LEAST,
+        true,
+        "[a - b > 0 or [a - b = 0 and 1 >= 0]]",
+    ),
+    (
+        [ZERO, ONE, MINUS_B],
+        MORE,
+        true,
+        "[a - b > 0 or [a - b = 0 and 1 > 0]]",
+    ),
+    // b*x^2 + c: its slopes are 2*b*x and 2*b
+    ([B, ZERO, C], LESS, false, "a^2*b + c < 0"),
+    ([B, ZERO, C], EQUAL, true, "[b = 0 and 0 = 0 and c = 0]"),
+    (
+        [B, ZERO, C],
+        NOT_EQUAL,
+        true,
+        "[b <> 0 or 0 <> 0 or c <> 0]",
+    ),
+    (
+        [B, ZERO, C],
+        LESS,
+        true,
+        "[a^2*b + c < 0 or [a^2*b + c = 0 and [2*a*b < 0 or [2*a*b = 0 and 2*b < 0]]]]",
+    ),
+    (
+        [B, ZERO, C],
+        AT_LEAST,
+        true,
+        "[a^2*b + c > 0 or [a^2*b + c = 0 and [2*a*b > 0 or [2*a*b = 0 and 2*b >= 0]]]]",
+    ),
+    // an atom without x stays
+    ([ZERO, ZERO, B], MORE, false, "b > 0"),
+    ([ZERO, ZERO, B], MORE, true, "b > 0"),
+];
+
+#[test]
+fn substitutes_a_quotient(rt: HostRuntime) {
+    let parts = [A, ZERO, ZERO, ONE];
+    for (coefficients, bits, plus, want) in AT_A {
+        assert!(rt;
+            is_text(
+                root_text(rt.alloc(), *coefficients, *bits, parts, *plus),
+                want
+            )
+        );
+    }
 }
 
 // The same at b + sqrt(c), where the form for the sign of A + B*sqrt(c) is needed.
+const AT_B_AND_ROOT_OF_C: &[([Linear; 3], u8, bool, &str)] = &[
+    // x - a: A is b - a, B is 1
+    (
+        [ZERO, ONE, MINUS_A],
+        EQUAL,
+        false,
+        "[-a + b <= 0 and a^2 - 2*a*b + b^2 - c = 0]",
+    ),
+    (
+        [ZERO, ONE, MINUS_A],
+        AT_MOST,
+        false,
+        "[[-a + b <= 0 and a^2 - 2*a*b + b^2 - c >= 0] or [1 <= 0 and a^2 - 2*a*b + b^2 - c <= 0]]",
+    ),
+    (
+        [ZERO, ONE, MINUS_A],
+        AT_MOST,
+        true,
+        "[[[-a + b < 0 and a^2 - 2*a*b + b^2 - c > 0] or [1 <= 0 and [-a + b < 0 or a^2 - 2*a*b + b^2 - c < 0]]] or [[-a + b <= 0 and a^2 - 2*a*b + b^2 - c = 0] and 1 <= 0]]",
+    ),
+    // x^2 - a: A is b^2 + c - a, B is 2*b
+    (
+        [ONE, ZERO, MINUS_A],
+        NOT_EQUAL,
+        false,
+        "[-2*a*b + 2*b^3 + 2*b*c > 0 or a^2 - 2*a*b^2 - 2*a*c + b^4 - 2*b^2*c + c^2 <> 0]",
+    ),
+];
+
 #[test]
-fn substitutes_a_square_root(rt: HostRuntime) -> Result<(), Fail> {
-    let alloc = rt.alloc();
+fn substitutes_a_square_root(rt: HostRuntime) {
     let parts = [B, ONE, C, ONE];
-    let minus_a = [-1, 0, 0, 0];
-    for (coefficients, bits, plus, want) in [
-        // x - a: A is b - a, B is 1
-        (
-            [ZERO, ONE, minus_a],
-            EQUAL,
-            false,
-            "[-a + b <= 0 and a^2 - 2*a*b + b^2 - c = 0]",
-        ),
-        (
-            [ZERO, ONE, minus_a],
-            AT_MOST,
-            false,
-            "[[-a + b <= 0 and a^2 - 2*a*b + b^2 - c >= 0] or [1 <= 0 and a^2 - 2*a*b + b^2 - c <= 0]]",
-        ),
-        (
-            [ZERO, ONE, minus_a],
-            AT_MOST,
-            true,
-            "[[[-a + b < 0 and a^2 - 2*a*b + b^2 - c > 0] or [1 <= 0 and [-a + b < 0 or a^2 - 2*a*b + b^2 - c < 0]]] or [[-a + b <= 0 and a^2 - 2*a*b + b^2 - c = 0] and 1 <= 0]]",
-        ),
-        // x^2 - a: A is b^2 + c - a, B is 2*b
-        (
-            [ONE, ZERO, minus_a],
-            NOT_EQUAL,
-            false,
-            "[-2*a*b + 2*b^3 + 2*b*c > 0 or a^2 - 2*a*b^2 - 2*a*c + b^4 - 2*b^2*c + c^2 <> 0]",
-        ),
-    ] {
-        let text = root_text(alloc, coefficients, bits, parts, plus)?;
-        assert_eq!(rt; text.as_str(), want);
+    for (coefficients, bits, plus, want) in AT_B_AND_ROOT_OF_C {
+        assert!(rt;
+            is_text(
+                root_text(rt.alloc(), *coefficients, *bits, parts, *plus),
+                want
+            )
+        );
     }
-    Ok(())
 }
 
 // The coefficients of x^2, x and 1, the relation, and what stands for the atom below all numbers.
+const BELOW: &[([Linear; 3], u8, &str)] = &[
+    ([ZERO, A, B], LESS, "[a > 0 or [a = 0 and b < 0]]"),
+    ([ZERO, A, B], AT_MOST, "[a > 0 or [a = 0 and b <= 0]]"),
+    ([ZERO, A, B], EQUAL, "[a = 0 and b = 0]"),
+    ([ZERO, A, B], NOT_EQUAL, "[a <> 0 or b <> 0]"),
+    ([ZERO, A, B], AT_LEAST, "[a < 0 or [a = 0 and b >= 0]]"),
+    ([ZERO, A, B], MORE, "[a < 0 or [a = 0 and b > 0]]"),
+    (
+        [A, B, C],
+        LESS,
+        "[a < 0 or [a = 0 and b > 0] or [a = 0 and b = 0 and c < 0]]",
+    ),
+    (
+        [A, B, C],
+        AT_MOST,
+        "[a < 0 or [a = 0 and b > 0] or [a = 0 and b = 0 and c <= 0]]",
+    ),
+    ([A, B, C], EQUAL, "[a = 0 and b = 0 and c = 0]"),
+    ([A, B, C], NOT_EQUAL, "[a <> 0 or b <> 0 or c <> 0]"),
+    (
+        [A, B, C],
+        AT_LEAST,
+        "[a > 0 or [a = 0 and b < 0] or [a = 0 and b = 0 and c >= 0]]",
+    ),
+    (
+        [A, B, C],
+        MORE,
+        "[a > 0 or [a = 0 and b < 0] or [a = 0 and b = 0 and c > 0]]",
+    ),
+    ([ZERO, ZERO, C], EQUAL, "c = 0"),
+];
+
 #[test]
-fn substitutes_minus_infinity(rt: HostRuntime) -> Result<(), Fail> {
-    let alloc = rt.alloc();
-    for (coefficients, bits, want) in [
-        ([ZERO, A, B], LESS, "[a > 0 or [a = 0 and b < 0]]"),
-        ([ZERO, A, B], AT_MOST, "[a > 0 or [a = 0 and b <= 0]]"),
-        ([ZERO, A, B], EQUAL, "[a = 0 and b = 0]"),
-        ([ZERO, A, B], NOT_EQUAL, "[a <> 0 or b <> 0]"),
-        ([ZERO, A, B], AT_LEAST, "[a < 0 or [a = 0 and b >= 0]]"),
-        ([ZERO, A, B], MORE, "[a < 0 or [a = 0 and b > 0]]"),
-        (
-            [A, B, C],
-            LESS,
-            "[a < 0 or [a = 0 and b > 0] or [a = 0 and b = 0 and c < 0]]",
-        ),
-        (
-            [A, B, C],
-            AT_MOST,
-            "[a < 0 or [a = 0 and b > 0] or [a = 0 and b = 0 and c <= 0]]",
-        ),
-        ([A, B, C], EQUAL, "[a = 0 and b = 0 and c = 0]"),
-        ([A, B, C], NOT_EQUAL, "[a <> 0 or b <> 0 or c <> 0]"),
-        (
-            [A, B, C],
-            AT_LEAST,
-            "[a > 0 or [a = 0 and b < 0] or [a = 0 and b = 0 and c >= 0]]",
-        ),
-        (
-            [A, B, C],
-            MORE,
-            "[a > 0 or [a = 0 and b < 0] or [a = 0 and b = 0 and c > 0]]",
-        ),
-        ([ZERO, ZERO, C], EQUAL, "c = 0"),
-    ] {
-        let text = below_text(alloc, coefficients, bits)?;
-        assert_eq!(rt; text.as_str(), want);
+fn substitutes_minus_infinity(rt: HostRuntime) {
+    for (coefficients, bits, want) in BELOW {
+        assert!(rt;
+            is_text(
+                poly_text(rt.alloc(), *coefficients, *bits, &Point::MinusInf),
+                want
+            )
+        );
     }
-    Ok(())
 }
 
 // The point is 0, as the root of 2*b*x. The coefficients of x^2, x and 1, the relation, and what stands for the atom.
+const AT_OWN: &[([Linear; 3], u8, bool, &str)] = &[
+    ([ZERO, TWICE_B, ZERO], LESS, false, "false"),
+    ([ZERO, TWICE_B, ZERO], AT_MOST, false, "true"),
+    ([ZERO, TWICE_B, ZERO], EQUAL, false, "true"),
+    ([ZERO, TWICE_B, ZERO], NOT_EQUAL, false, "false"),
+    (
+        [ZERO, TWICE_B, ZERO],
+        LESS,
+        true,
+        "[false or [true and 2*b < 0]]",
+    ),
+    (
+        [ZERO, TWICE_B, ZERO],
+        AT_LEAST,
+        true,
+        "[false or [true and 2*b >= 0]]",
+    ),
+    ([ZERO, TWICE_B, ZERO], EQUAL, true, "[2*b = 0 and 0 = 0]"),
+    // it is the slope of b*x^2 + c, whose value at 0 is (2*b)^2*c over the square of the divisor
+    ([B, ZERO, C], LESS, false, "4*b^2*c < 0"),
+    (
+        [B, ZERO, C],
+        LESS,
+        true,
+        "[4*b^2*c < 0 or [4*b^2*c = 0 and [false or [true and 2*b < 0]]]]",
+    ),
+];
+
 #[test]
-fn knows_the_own_polynomial(rt: HostRuntime) -> Result<(), Fail> {
-    let alloc = rt.alloc();
-    let twice_b = [0, 2, 0, 0];
-    for (coefficients, bits, plus, want) in [
-        ([ZERO, twice_b, ZERO], LESS, false, "false"),
-        ([ZERO, twice_b, ZERO], AT_MOST, false, "true"),
-        ([ZERO, twice_b, ZERO], EQUAL, false, "true"),
-        ([ZERO, twice_b, ZERO], NOT_EQUAL, false, "false"),
-        (
-            [ZERO, twice_b, ZERO],
-            LESS,
-            true,
-            "[false or [true and 2*b < 0]]",
-        ),
-        (
-            [ZERO, twice_b, ZERO],
-            AT_LEAST,
-            true,
-            "[false or [true and 2*b >= 0]]",
-        ),
-        ([ZERO, twice_b, ZERO], EQUAL, true, "[2*b = 0 and 0 = 0]"),
-        // it is the slope of b*x^2 + c, whose value at 0 is (2*b)^2*c over the square of the divisor
-        ([B, ZERO, C], LESS, false, "4*b^2*c < 0"),
-        (
-            [B, ZERO, C],
-            LESS,
-            true,
-            "[4*b^2*c < 0 or [4*b^2*c = 0 and [false or [true and 2*b < 0]]]]",
-        ),
-    ] {
-        let text = own_text(alloc, coefficients, bits, plus)?;
-        assert_eq!(rt; text.as_str(), want);
+fn knows_the_own_polynomial(rt: HostRuntime) {
+    for (coefficients, bits, plus, want) in AT_OWN {
+        assert!(rt; is_text(own_text(rt.alloc(), *coefficients, *bits, *plus), want));
     }
-    Ok(())
 }
 
 // The coefficients of x^2, x and 1, the relation, then p, q, r and s, and the first limit at the root.
+const LIMITS: &[([Linear; 3], u8, [Linear; 4], &str)] = &[
+    // M*x + 1 at M
+    (
+        [ZERO, GREATEST, ONE],
+        LESS,
+        [GREATEST, ZERO, ZERO, ONE],
+        "root at 0: 170141183460469231731687303715884105727 * 170141183460469231731687303715884105727",
+    ),
+    // x at M + 2*sqrt(a): A*B comes first for `=`, and A*A for `<`
+    (
+        [ZERO, ONE, ZERO],
+        EQUAL,
+        [GREATEST, TWO, A, ONE],
+        "sign at 0: 170141183460469231731687303715884105727 * 2",
+    ),
+    (
+        [ZERO, ONE, ZERO],
+        LESS,
+        [GREATEST, TWO, A, ONE],
+        "sign at 0: 170141183460469231731687303715884105727 * 170141183460469231731687303715884105727",
+    ),
+];
+
 #[test]
-fn tells_the_first_limit(rt: HostRuntime) -> Result<(), Fail> {
-    let alloc = rt.alloc();
-    let most = [0, 0, 0, MOST];
-    let two = [0, 0, 0, 2];
-    for (coefficients, bits, parts, want) in [
-        // M*x + 1 at M
-        (
-            [ZERO, most, ONE],
-            LESS,
-            [most, ZERO, ZERO, ONE],
-            "root at 0: 170141183460469231731687303715884105727 * 170141183460469231731687303715884105727",
-        ),
-        // x at M + 2*sqrt(a): A*B comes first for `=`, and A*A for `<`
-        (
-            [ZERO, ONE, ZERO],
-            EQUAL,
-            [most, two, A, ONE],
-            "sign at 0: 170141183460469231731687303715884105727 * 2",
-        ),
-        (
-            [ZERO, ONE, ZERO],
-            LESS,
-            [most, two, A, ONE],
-            "sign at 0: 170141183460469231731687303715884105727 * 170141183460469231731687303715884105727",
-        ),
-    ] {
-        let text = root_text(alloc, coefficients, bits, parts, false)?;
-        assert_eq!(rt; text.as_str(), want);
+fn tells_the_first_limit(rt: HostRuntime) {
+    for (coefficients, bits, parts, want) in LIMITS {
+        assert!(rt;
+            is_text(
+                root_text(rt.alloc(), *coefficients, *bits, *parts, false),
+                want
+            )
+        );
     }
-    Ok(())
 }
 
 /// What stands for M*a*x^2 + x + 1 < 0 just above a root of this polynomial.
@@ -498,13 +538,9 @@ fn slope_text(alloc: Global) -> Result<String, PolyStop> {
 
 // No operation but that of the slope is needed.
 #[test]
-fn tells_the_limit_of_a_slope(rt: HostRuntime) -> Result<(), Fail> {
-    let text = slope_text(rt.alloc())?;
-    assert_eq!(rt;
-        text.as_str(),
-        "slope at 0: 170141183460469231731687303715884105727 * 2"
-    );
-    Ok(())
+fn tells_the_limit_of_a_slope(rt: HostRuntime) {
+    let want = "slope at 0: 170141183460469231731687303715884105727 * 2";
+    assert!(rt; is_text(slope_text(rt.alloc()), want));
 }
 
 /// The `And` of two formulas with a constant between them.
@@ -529,38 +565,44 @@ fn numbered_text(alloc: Global) -> Result<String, PolyStop> {
     Ok(two_text(alloc, first, second, &point)?)
 }
 
+fn low_text(alloc: Global, form: &Form, point: &Point) -> Result<String, OutOfMemory>
+    requires plain { IsPlainAndProper (tree form.now) }
+    requires degree { degree 3 (tree form.now) ≤ 2 }
+{
+    outcome_text(alloc, substitute(alloc, form, X, point, None))
+}
+
+/// The atom `poly < 0`, or `poly = 0`.
+fn sign_of(poly: Poly, zero: bool) -> Form
+    requires { degree_in 3 poly ≤ 2 }
+    ensures plain { IsPlainAndProper (tree result) }
+    ensures degree { degree 3 (tree result) ≤ 2 }
+{
+    let signs = Signs::of(!zero, zero, false);
+    Form::Atom(Atom { poly, signs })
+}
+
 fn two_text(
     alloc: Global,
     first: Poly,
     second: Poly,
     point: &Point,
 ) -> Result<String, OutOfMemory> {
-    let is_low = first.degree_in(X) <= 2 && second.degree_in(X) <= 2;
-    let less = Form::Atom(Atom {
-        poly: first,
-        signs: Signs::of(true, false, false),
-    });
-    let equal = Form::Atom(Atom {
-        poly: second,
-        signs: Signs::of(false, true, false),
-    });
-    let form = three(alloc, less, equal)?;
-    if is_low {
-        outcome_text(alloc, substitute(alloc, &form, X, point, None))
-    } else {
-        Ok(String::new(alloc))
+    if first.degree_in(X) > 2 {
+        return Ok(String::new(alloc));
     }
+    if second.degree_in(X) > 2 {
+        return Ok(String::new(alloc));
+    }
+    let form = three(alloc, sign_of(first, false), sign_of(second, true))?;
+    low_text(alloc, &form, point)
 }
 
 // Only atoms are numbered, and the first with a limit is told.
 #[test]
-fn numbers_the_atoms(rt: HostRuntime) -> Result<(), Fail> {
-    let text = numbered_text(rt.alloc())?;
-    assert_eq!(rt;
-        text.as_str(),
-        "root at 1: 2 * 170141183460469231731687303715884105727"
-    );
-    Ok(())
+fn numbers_the_atoms(rt: HostRuntime) {
+    let want = "root at 1: 2 * 170141183460469231731687303715884105727";
+    assert!(rt; is_text(numbered_text(rt.alloc()), want));
 }
 
 /// A little more than twice as many constants.
