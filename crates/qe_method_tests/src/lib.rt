@@ -8,3 +8,5 @@ mod nodes;
 mod polynomials;
 #[cfg(test)]
 mod roots;
+#[cfg(test)]
+mod substitution;

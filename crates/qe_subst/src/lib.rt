@@ -10,8 +10,6 @@ mod near;
 mod root;
 mod signs;
 mod stop;
-#[cfg(test)]
-mod tests;
 
 pub use formula::substitute;
 pub use qe_root::{

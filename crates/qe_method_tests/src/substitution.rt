@@ -6,13 +6,13 @@ ghost use Rattle.qe_poly.specs.Coefficients.{degree_in};
 ghost use Rattle.qe_form.specs.Plain.{IsPlainAndProper};
 ghost use Rattle.qe_form.specs.Tree.{tree};
 
-use crate::{
-    Form, Forms, OutOfMemory, Point, Poly, PolyLimit, PolyStop, RootPoint, Signs, Stage, SubstStop,
-    Var, substitute,
-};
 use qe_coef::{Coef, Op, Wide};
 use qe_form::{Atom, Sequence};
 use qe_poly::Term;
+use qe_subst::{
+    Form, Forms, OutOfMemory, Point, Poly, PolyLimit, PolyStop, RootPoint, Signs, Stage, SubstStop,
+    Var, substitute,
+};
 use std::alloc::Global;
 use std::fmt::Write;
 use std::test::Fail;
