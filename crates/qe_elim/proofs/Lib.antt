@@ -4,4 +4,3 @@ pub mod Alone
 pub mod Roots
 pub mod Growths
 pub mod Visits
-pub mod Trivial

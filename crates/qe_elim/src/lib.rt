@@ -7,8 +7,6 @@ mod eliminate;
 mod fine;
 mod search;
 mod step;
-#[cfg(test)]
-mod tests;
 
 pub use eliminate::{ElimStop, Outcome, eliminate_alone};
 pub use qe_form::Var;

@@ -167,6 +167,13 @@ fn keeps_to_the_limit_of_nodes(rt: HostRuntime) -> Result<(), Fail> {
         &[(input, 9, "node limit: block 1 has more than 2 nodes\n")],
     )?;
     expect_all(&rt, rt.alloc(), "--nodes 3", &[(input, 0, "a - b < 0\n")])?;
+    // The tree of each has one node: True, and for `all` False.
+    expect_all(
+        &rt,
+        rt.alloc(),
+        "--nodes 1",
+        &[("ex x. true", 0, "true\n"), ("all x. true", 0, "true\n")],
+    )?;
     Ok(())
 }
 
