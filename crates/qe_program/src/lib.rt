@@ -7,8 +7,6 @@ mod fault;
 mod reply;
 mod status;
 mod stop;
-#[cfg(test)]
-mod tests;
 mod top;
 
 pub use status::Status;

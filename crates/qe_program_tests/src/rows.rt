@@ -1,8 +1,7 @@
-use crate::fault::fault_line;
-use crate::run_alone;
+//! What words and texts come to.
+
 use qe_base::{MemSink, MemSource};
-use qe_coef::{Coef, Op};
-use qe_read::{ReadFault, Wide};
+use qe_program::run_alone;
 use std::alloc::{AllocError, Global};
 use std::process::Abort;
 use std::test::Fail;
@@ -100,6 +99,23 @@ fn tells_the_first_fault(rt: HostRuntime) -> Result<(), Fail> {
                 "bad input: overflow at 40: 170141183460469231731687303715884105727 + 1\n",
             ),
             ("x^65536 = 0", 4, "bad input: exponent at 2\n"),
+            (
+                "x = 1 + 170141183460469231731687303715884105728",
+                4,
+                "bad input: wide literal at 8\n",
+            ),
+            (
+                "0 - 170141183460469231731687303715884105727 - 2 > x",
+                4,
+                "bad input: overflow at 44: -170141183460469231731687303715884105727 - 2\n",
+            ),
+            (
+                "170141183460469231731687303715884105727 * (0 - 2) > x",
+                4,
+                "bad input: overflow at 40: 170141183460469231731687303715884105727 * -2\n",
+            ),
+            // 31*30*29/6 = 4,495 monomials of degree 28
+            ("0 = (w + x + y + z)^28", 4, "bad input: monomials at 19\n"),
         ],
     )?;
     Ok(())
@@ -276,6 +292,19 @@ fn opens_too_many_brackets(rt: HostRuntime) -> Result<(), Fail> {
 }
 
 #[test]
+fn has_too_many_atoms(rt: HostRuntime) -> Result<(), Fail> {
+    let alloc = rt.alloc();
+    let most = nested(alloc, 65_536, b"true and ", b"true", b"")?;
+    let (status, taken) = outcome(alloc, "", &most)?;
+    assert_eq!(rt; status, 4);
+    assert_eq!(rt;
+        taken.as_slice(),
+        b"bad input: too many atoms at 589824\n".as_slice()
+    );
+    Ok(())
+}
+
+#[test]
 fn reads_so_many_bytes(rt: HostRuntime) -> Result<(), Fail> {
     let alloc = rt.alloc();
     let most = nested(alloc, 1_048_571, b" ", b"2 < 3", b"")?;
@@ -313,41 +342,5 @@ fn puts_a_point_into_many_atoms(rt: HostRuntime) -> Result<(), Fail> {
         taken.as_slice(),
         b"too large: block 1 node root point 0\n".as_slice()
     );
-    Ok(())
-}
-
-fn overflow(place: u32, op: Op, left: i128, right: i128) -> ReadFault {
-    let left = Coef::of(left).unwrap_or(Coef::zero());
-    let right = Coef::of(right).unwrap_or(Coef::zero());
-    ReadFault::Overflow(place, Wide { op, left, right })
-}
-
-#[test]
-fn names_each_fault(rt: HostRuntime) -> Result<(), Fail> {
-    let rows = [
-        (ReadFault::Syntax(0), "syntax at 0"),
-        (ReadFault::Wide(7), "wide literal at 7"),
-        (ReadFault::Exponent(2), "exponent at 2"),
-        (ReadFault::TooDeep(256), "too deep at 256"),
-        (ReadFault::TooMany(u32::MAX), "too many atoms at 4294967295"),
-        (ReadFault::Polynomial(12), "monomials at 12"),
-        (
-            overflow(40, Op::Add, i128::MAX, 1),
-            "overflow at 40: 170141183460469231731687303715884105727 + 1",
-        ),
-        (
-            overflow(3, Op::Sub, -i128::MAX, 2),
-            "overflow at 3: -170141183460469231731687303715884105727 - 2",
-        ),
-        (
-            overflow(5, Op::Mul, i128::MAX, -2),
-            "overflow at 5: 170141183460469231731687303715884105727 * -2",
-        ),
-    ];
-    for (fault, want) in &rows {
-        let line = fault_line(rt.alloc(), fault)?;
-        let want = format!(in rt.alloc(); "bad input: {want}\n")?;
-        assert_eq!(rt; line.as_slice(), want.as_bytes());
-    }
     Ok(())
 }
