@@ -200,24 +200,26 @@ fn multiplies(rt: HostRuntime) {
     }
 }
 
-#[test]
-fn tells_the_limits_of_products(rt: HostRuntime) {
-    let alloc = rt.alloc();
-    // the sums of 1, x, .. to x^64, and of 1, y, .. to y^64
+/// The product of the sums of 1, x, .. to x^64, and of 1, y, .. to y^64.
+fn grid(alloc: Global) -> Result<Poly, PolyStop> {
     let mut rows = [(1, ONE); 65];
     let mut columns = [(1, ONE); 65];
     for i in 0..65 {
         rows[i] = (1, [i as u16, 0, 0, 0]);
         columns[i] = (1, [0, i as u16, 0, 0]);
     }
+    combined(alloc, Op::Mul, &rows, &columns)
+}
+
+#[test]
+fn tells_the_limits_of_products(rt: HostRuntime) {
+    let alloc = rt.alloc();
     let high: &[Part] = &[(1, [40000, 0, 0, 0])];
     let k = 13043817825332782212;
     let square = 170141183460469231722567801800623612944;
-    let cases: [(&[Part], &[Part], PolyLimit); 4] = [
+    let cases: [(&[Part], &[Part], PolyLimit); 3] = [
         // 40,000 + 40,000 = 80,000 is over 65,535
         (high, high, PolyLimit::Exponent),
-        // 65*65 = 4,225 monomials
-        (&rows, &columns, PolyLimit::Monomials),
         // 2*(2^127-1) is out of range
         (&[(MOST, ONE)], &[(2, ONE)], wide(Op::Mul, MOST, 2)),
         // (k*a + k)*(k*a - k): at a meet k^2 and -k^2, and the magnitudes add to 2*k^2, just over 2^127-1
@@ -231,6 +233,8 @@ fn tells_the_limits_of_products(rt: HostRuntime) {
         let outcome = combined(alloc, Op::Mul, left, right);
         assert!(rt; number(outcome) == stopped(limit));
     }
+    // 65*65 = 4,225 monomials
+    assert!(rt; number(grid(alloc)) == stopped(PolyLimit::Monomials));
 }
 
 /// The sum of terms times a number.
