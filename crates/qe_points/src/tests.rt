@@ -9,7 +9,6 @@ use qe_form::{Atom, Forms, Sequence, Signs};
 use qe_poly::{PolyStop, Term};
 use std::alloc::Global;
 use std::fmt::Write;
-use std::test::Fail;
 
 /// The greatest coefficient.
 const MOST: i128 = i128::MAX;
@@ -38,27 +37,35 @@ fn coef(value: i128) -> Coef {
     Coef::of(value).unwrap_or(Coef::zero())
 }
 
+/// The sum with `value` times the variable.
+fn with_term(alloc: Global, sum: &Poly, value: i128, var: u32) -> Result<Poly, PolyStop> {
+    let term = Poly::power(alloc, Var(var), 1)?.scale(alloc, coef(value))?;
+    sum.add(alloc, &term)
+}
+
 /// `numbers[0]*a + numbers[1]*b + numbers[2]*c + numbers[3]`.
 fn linear(alloc: Global, numbers: [i128; 4]) -> Result<Poly, PolyStop> {
-    let a = Poly::power(alloc, Var(0), 1)?.scale(alloc, coef(numbers[0]))?;
-    let b = Poly::power(alloc, Var(1), 1)?.scale(alloc, coef(numbers[1]))?;
-    let c = Poly::power(alloc, Var(2), 1)?.scale(alloc, coef(numbers[2]))?;
     let number = Poly::constant(alloc, coef(numbers[3]))?;
-    a.add(alloc, &b)?.add(alloc, &c)?.add(alloc, &number)
+    let c = with_term(alloc, &number, numbers[2], 2)?;
+    let b = with_term(alloc, &c, numbers[1], 1)?;
+    with_term(alloc, &b, numbers[0], 0)
 }
 
 fn number(value: i128) -> [i128; 4] {
     [0, 0, 0, value]
 }
 
+/// `value*x` with that sum of `a`, `b`, `c` and a number.
+fn next(alloc: Global, value: &Poly, numbers: [i128; 4]) -> Result<Poly, PolyStop> {
+    let product = value.mul(alloc, &Poly::power(alloc, X, 1)?)?;
+    product.add(alloc, &linear(alloc, numbers)?)
+}
+
 /// The polynomial in `x` with the three coefficients.
 fn quadratic(alloc: Global, coefficients: [[i128; 4]; 3]) -> Result<Poly, PolyStop> {
-    let x = Poly::power(alloc, X, 1)?;
-    let square = linear(alloc, coefficients[0])?.mul(alloc, &x)?;
-    let line = square
-        .add(alloc, &linear(alloc, coefficients[1])?)?
-        .mul(alloc, &x)?;
-    line.add(alloc, &linear(alloc, coefficients[2])?)
+    let square = linear(alloc, coefficients[0])?;
+    let line = next(alloc, &square, coefficients[1])?;
+    next(alloc, &line, coefficients[2])
 }
 
 /// A term without its sign, as `2*a^2*b`.
@@ -147,25 +154,33 @@ fn signs_of(bits: u8) -> Signs {
     Signs::of(bits % 2 == 1, bits / 2 % 2 == 1, bits / 4 % 2 == 1)
 }
 
-/// The `Or` of the `And`s of atoms.
-fn formula(alloc: Global, parts: &[&[(Numbers, u8)]]) -> Result<Form, PolyStop> {
-    let mut either = Sequence::new(alloc);
-    for part in parts {
-        either.push(conjunction(alloc, part)?)?;
-    }
-    Ok(Form::Or(either))
+/// The atom on the polynomial.
+fn atom(alloc: Global, numbers: Numbers, bits: u8) -> Result<Form, PolyStop> {
+    let poly = quadratic(alloc, numbers)?;
+    let signs = signs_of(bits);
+    Ok(Form::Atom(Atom { poly, signs }))
+}
+
+fn add(parts: &mut Forms, form: Form) -> Result<(), PolyStop> {
+    parts.push(form)?;
+    Ok(())
 }
 
 fn conjunction(alloc: Global, atoms: &[(Numbers, u8)]) -> Result<Form, PolyStop> {
     let mut both = Sequence::new(alloc);
     for (numbers, bits) in atoms {
-        let poly = quadratic(alloc, *numbers)?;
-        both.push(Form::Atom(Atom {
-            poly,
-            signs: signs_of(*bits),
-        }))?;
+        add(&mut both, atom(alloc, *numbers, *bits)?)?;
     }
     Ok(Form::And(both))
+}
+
+/// The `Or` of the `And`s of atoms.
+fn formula(alloc: Global, parts: &[&[(Numbers, u8)]]) -> Result<Form, PolyStop> {
+    let mut either = Sequence::new(alloc);
+    for part in parts {
+        add(&mut either, conjunction(alloc, part)?)?;
+    }
+    Ok(Form::Or(either))
 }
 
 /// A candidate as `upper+ 2: POLY`, with the number of its atom.
@@ -199,16 +214,17 @@ fn candidates_text(alloc: Global, form: &Form) -> Result<String, OutOfMemory> {
     Ok(out)
 }
 
+fn push_part(out: &mut String, before: &str, poly: &Poly) -> Result<(), OutOfMemory> {
+    out.push_str(before)?;
+    push_poly(out, poly)
+}
+
 /// A root as `(p + (q)*sqrt(r))/(s)`.
 fn push_root(out: &mut String, root: &RootPoint) -> Result<(), OutOfMemory> {
-    out.push_str("(")?;
-    push_poly(out, &root.p)?;
-    out.push_str(" + (")?;
-    push_poly(out, &root.q)?;
-    out.push_str(")*sqrt(")?;
-    push_poly(out, &root.r)?;
-    out.push_str("))/(")?;
-    push_poly(out, &root.s)?;
+    push_part(out, "(", &root.p)?;
+    push_part(out, " + (", &root.q)?;
+    push_part(out, ")*sqrt(", &root.r)?;
+    push_part(out, "))/(", &root.s)?;
     out.push_str(")")
 }
 
@@ -235,6 +251,14 @@ fn guarded_text(alloc: Global, found: Option<GuardedPoint>) -> Result<String, Ou
         None => out.push_str("none")?,
     }
     Ok(out)
+}
+
+/// The polynomial; no limit is met.
+fn general(alloc: Global, numbers: Numbers) -> Result<Poly, SubstStop> {
+    match quadratic(alloc, numbers) {
+        Ok(poly) => Ok(poly),
+        Err(_) => Err(SubstStop::OutOfMemory),
+    }
 }
 
 /// The guard and the point of the candidate at a root of the polynomial, with the atom number 7.
@@ -318,134 +342,173 @@ const SQUARE: Numbers = [[0, 0, 0, -1], ZERO, B];
 /// `a - x + 2`
 const AFTER: Numbers = [ZERO, [0, 0, 0, -1], [1, 0, 0, 2]];
 
-#[test]
-fn lists_candidates(rt: HostRuntime) -> Result<(), Fail> {
-    let alloc = rt.alloc();
-    for (parts, want) in [
-        (
-            [[(GENERAL, EQUAL)].as_slice()].as_slice(),
-            "linear 0: a*x^2 + b*x + c; upper 0: a*x^2 + b*x + c; lower 0: a*x^2 + b*x + c; below; ",
-        ),
-        (
-            [[(TO_A, LESS), (TO_B, MORE)].as_slice()].as_slice(),
-            "linear+ 0: a - x; linear+ 1: b - x; below; ",
-        ),
-        // a polynomial in both groups; it is first where zero is allowed only in the third atom
-        (
-            [
-                [(AFTER, LESS), (SQUARE, EQUAL)].as_slice(),
-                [(AFTER, AT_LEAST), (TO_B, AT_MOST)].as_slice(),
-            ]
-            .as_slice(),
-            "linear 1: b - x^2; upper 1: b - x^2; lower 1: b - x^2; linear 2: a - x + 2; linear 3: b - x; linear+ 0: a - x + 2; below; ",
-        ),
-        // repeats keep the first number; what has no x gives none, and is counted
-        (
-            [
-                [(LINE, EQUAL), (TO_A, AT_MOST)].as_slice(),
-                [(LINE, AT_MOST), ([ZERO, ZERO, A], LESS)].as_slice(),
-                [(TO_B, NOT_EQUAL), (TO_B, LESS)].as_slice(),
-            ]
-            .as_slice(),
-            "linear 0: x; linear 1: a - x; linear+ 4: b - x; below; ",
-        ),
-        ([].as_slice(), "below; "),
-    ] {
-        let form = formula(alloc, parts)?;
-        assert_eq!(rt; candidates_text(alloc, &form)?.as_str(), want);
-    }
-    Ok(())
+/// The candidates of the formula, as text.
+fn listed_text(alloc: Global, parts: &[&[(Numbers, u8)]]) -> Result<String, PolyStop> {
+    let form = formula(alloc, parts)?;
+    Ok(candidates_text(alloc, &form)?)
 }
 
-#[test]
-fn gives_guards_and_points(rt: HostRuntime) -> Result<(), Fail> {
-    let alloc = rt.alloc();
-    for (numbers, which, plus, want) in [
-        (
-            GENERAL,
-            Which::Linear,
-            false,
-            "[a = 0 and b <> 0]: (-c + (0)*sqrt(0))/(b)",
-        ),
-        (
-            GENERAL,
-            Which::Upper,
-            false,
-            "[4*a*c - b^2 <= 0 and a <> 0]: (-b + (1)*sqrt(-4*a*c + b^2))/(2*a)",
-        ),
-        (
-            GENERAL,
-            Which::Lower,
-            true,
-            "[4*a*c - b^2 <= 0 and a <> 0]: (-b + (-1)*sqrt(-4*a*c + b^2))/(2*a)+",
-        ),
-        // -1 is negated
-        (TO_A, Which::Linear, true, "true: (a + (0)*sqrt(0))/(1)+"),
-        (
-            SQUARE,
-            Which::Upper,
-            false,
-            "b >= 0: (0 + (-1)*sqrt(4*b))/(2)",
-        ),
-        (
-            SQUARE,
-            Which::Lower,
-            false,
-            "b >= 0: (0 + (1)*sqrt(4*b))/(2)",
-        ),
-        // b*x + c of degree one, and x^2 - 2
-        (
-            [ZERO, B, C],
-            Which::Linear,
-            false,
-            "b <> 0: (-c + (0)*sqrt(0))/(b)",
-        ),
-        (
-            [ONE, ZERO, [0, 0, 0, -2]],
-            Which::Upper,
-            false,
-            "true: (0 + (1)*sqrt(8))/(2)",
-        ),
-        // x^2 + 1 has neither a root of degree one nor one of degree two
-        ([ONE, ZERO, ONE], Which::Linear, false, "none"),
-        ([ONE, ZERO, ONE], Which::Lower, false, "none"),
-    ] {
-        let found = guarded_root(alloc, quadratic(alloc, numbers)?, which, plus)?;
-        assert_eq!(rt; guarded_text(alloc, found)?.as_str(), want);
+fn is_listed(alloc: Global, parts: &[&[(Numbers, u8)]], want: &str) -> bool {
+    match listed_text(alloc, parts) {
+        Ok(text) => text.as_str() == want,
+        Err(_) => false,
     }
-    Ok(())
 }
 
+const LISTS: &[(&[&[(Numbers, u8)]], &str)] = &[
+    (
+        &[&[(GENERAL, EQUAL)]],
+        "linear 0: a*x^2 + b*x + c; upper 0: a*x^2 + b*x + c; lower 0: a*x^2 + b*x + c; below; ",
+    ),
+    (
+        &[&[(TO_A, LESS), (TO_B, MORE)]],
+        "linear+ 0: a - x; linear+ 1: b - x; below; ",
+    ),
+    // a polynomial in both groups; it is first where zero is allowed only in the third atom
+    (
+        &[
+            &[(AFTER, LESS), (SQUARE, EQUAL)],
+            &[(AFTER, AT_LEAST), (TO_B, AT_MOST)],
+        ],
+        "linear 1: b - x^2; upper 1: b - x^2; lower 1: b - x^2; linear 2: a - x + 2; linear 3: b - x; linear+ 0: a - x + 2; below; ",
+    ),
+    // repeats keep the first number; what has no x gives none, and is counted
+    (
+        &[
+            &[(LINE, EQUAL), (TO_A, AT_MOST)],
+            &[(LINE, AT_MOST), ([ZERO, ZERO, A], LESS)],
+            &[(TO_B, NOT_EQUAL), (TO_B, LESS)],
+        ],
+        "linear 0: x; linear 1: a - x; linear+ 4: b - x; below; ",
+    ),
+    (&[], "below; "),
+];
+
 #[test]
-fn guards_minus_infinity(rt: HostRuntime) -> Result<(), Fail> {
-    let alloc = rt.alloc();
+fn lists_candidates(rt: HostRuntime) {
+    for (parts, want) in LISTS {
+        assert!(rt; is_listed(rt.alloc(), parts, want));
+    }
+}
+
+fn found_text(
+    alloc: Global,
+    numbers: Numbers,
+    which: Which,
+    plus: bool,
+) -> Result<String, SubstStop> {
+    let poly = general(alloc, numbers)?;
+    let found = guarded_root(alloc, poly, which, plus)?;
+    Ok(guarded_text(alloc, found)?)
+}
+
+/// The guard and the point of the candidate at a root, as text.
+fn is_found(alloc: Global, numbers: Numbers, which: Which, plus: bool, want: &str) -> bool {
+    match found_text(alloc, numbers, which, plus) {
+        Ok(text) => text.as_str() == want,
+        Err(_) => false,
+    }
+}
+
+const GUARDS: &[(Numbers, Which, bool, &str)] = &[
+    (
+        GENERAL,
+        Which::Linear,
+        false,
+        "[a = 0 and b <> 0]: (-c + (0)*sqrt(0))/(b)",
+    ),
+    (
+        GENERAL,
+        Which::Upper,
+        false,
+        "[4*a*c - b^2 <= 0 and a <> 0]: (-b + (1)*sqrt(-4*a*c + b^2))/(2*a)",
+    ),
+    (
+        GENERAL,
+        Which::Lower,
+        true,
+        "[4*a*c - b^2 <= 0 and a <> 0]: (-b + (-1)*sqrt(-4*a*c + b^2))/(2*a)+",
+    ),
+    // -1 is negated
+    (TO_A, Which::Linear, true, "true: (a + (0)*sqrt(0))/(1)+"),
+    (
+        SQUARE,
+        Which::Upper,
+        false,
+        "b >= 0: (0 + (-1)*sqrt(4*b))/(2)",
+    ),
+    (
+        SQUARE,
+        Which::Lower,
+        false,
+        "b >= 0: (0 + (1)*sqrt(4*b))/(2)",
+    ),
+    // b*x + c of degree one, and x^2 - 2
+    (
+        [ZERO, B, C],
+        Which::Linear,
+        false,
+        "b <> 0: (-c + (0)*sqrt(0))/(b)",
+    ),
+    (
+        [ONE, ZERO, [0, 0, 0, -2]],
+        Which::Upper,
+        false,
+        "true: (0 + (1)*sqrt(8))/(2)",
+    ),
+    // x^2 + 1 has neither a root of degree one nor one of degree two
+    ([ONE, ZERO, ONE], Which::Linear, false, "none"),
+    ([ONE, ZERO, ONE], Which::Lower, false, "none"),
+];
+
+#[test]
+fn gives_guards_and_points(rt: HostRuntime) {
+    for (numbers, which, plus, want) in GUARDS {
+        assert!(rt; is_found(rt.alloc(), *numbers, *which, *plus, want));
+    }
+}
+
+fn below_text(alloc: Global) -> Result<String, SubstStop> {
     let found = guarded(alloc, &Candidate::MinusInf, X)?;
-    assert_eq!(rt; guarded_text(alloc, found)?.as_str(), "true: below");
-    Ok(())
+    Ok(guarded_text(alloc, found)?)
 }
+
+#[test]
+fn guards_minus_infinity(rt: HostRuntime) {
+    assert!(rt; matches!(below_text(rt.alloc()), Ok(text) if text.as_str() == "true: below"));
+}
+
+/// The stop of the guard of the upper root.
+fn met(alloc: Global, numbers: Numbers) -> Option<SubstStop> {
+    match general(alloc, numbers) {
+        Ok(poly) => guarded_root(alloc, poly, Which::Upper, false).err(),
+        Err(_) => None,
+    }
+}
+
+const FOURTH: i128 = MOST / 4;
 
 // The coefficients of x^2, x and 1, and the operation with its two numbers; one row for each operation.
+const LIMITS: &[([i128; 3], Op, i128, i128)] = &[
+    ([MOST, MOST, MOST], Op::Mul, MOST, MOST),
+    ([MOST, 1, 2], Op::Mul, MOST, 2),
+    ([MOST, 1, 1], Op::Mul, MOST, 4),
+    ([1, ROOT, -FOURTH], Op::Sub, ROOT * ROOT, -4 * FOURTH),
+    ([MOST, 1, 0], Op::Mul, MOST, 2),
+];
+
 #[test]
-fn tells_the_first_limit_of_a_guard(rt: HostRuntime) -> Result<(), Fail> {
-    let alloc = rt.alloc();
-    let fourth = MOST / 4;
-    for (numbers, op, left, right) in [
-        ([MOST, MOST, MOST], Op::Mul, MOST, MOST),
-        ([MOST, 1, 2], Op::Mul, MOST, 2),
-        ([MOST, 1, 1], Op::Mul, MOST, 4),
-        ([1, ROOT, -fourth], Op::Sub, ROOT * ROOT, -4 * fourth),
-        ([MOST, 1, 0], Op::Mul, MOST, 2),
-    ] {
-        let [square, slope, free] = numbers;
-        let poly = quadratic(alloc, [number(square), number(slope), number(free)])?;
+fn tells_the_first_limit_of_a_guard(rt: HostRuntime) {
+    for (numbers, op, left, right) in LIMITS {
+        let [square, slope, free] = *numbers;
+        let numbers = [number(square), number(slope), number(free)];
         let limit = PolyLimit::Coefficient(Wide {
-            op,
-            left: coef(left),
-            right: coef(right),
+            op: *op,
+            left: coef(*left),
+            right: coef(*right),
         });
-        let stop = guarded_root(alloc, poly, Which::Upper, false).err();
         assert_eq!(rt;
-            stop,
+            met(rt.alloc(), numbers),
             Some(SubstStop::At {
                 atom: 7,
                 stage: Stage::Guard,
@@ -453,28 +516,47 @@ fn tells_the_first_limit_of_a_guard(rt: HostRuntime) -> Result<(), Fail> {
             })
         );
     }
-    Ok(())
 }
 
+/// Whether the choice among the variables is this one, for each row.
+fn is_chosen(form: &Form, rows: &[(&[Var], Option<Var>)]) -> bool {
+    for (vars, want) in rows {
+        if choose(form, vars) != *want {
+            return false;
+        }
+    }
+    true
+}
+
+fn is_chosen_in(found: Result<Form, PolyStop>, rows: &[(&[Var], Option<Var>)]) -> bool {
+    match found {
+        Ok(form) => is_chosen(&form, rows),
+        Err(_) => false,
+    }
+}
+
+fn cube(alloc: Global) -> Result<Form, PolyStop> {
+    let poly = Poly::power(alloc, X, 3)?;
+    let signs = signs_of(EQUAL);
+    Ok(Form::Atom(Atom { poly, signs }))
+}
+
+// In a*x^2 + b*x + c = 0 and x > 0.
+const CHOICES: &[(&[Var], Option<Var>)] = &[
+    (&[X, Var(1), Var(0)], Some(Var(1))),
+    (&[X], Some(X)),
+    (&[], None),
+];
+
+// In x^3 = 0.
+const HIGH_CHOICES: &[(&[Var], Option<Var>)] = &[
+    (&[X], None),
+    (&[X, Var(0), Var(1)], Some(Var(0))),
+];
+
 #[test]
-fn chooses_the_least_degree(rt: HostRuntime) -> Result<(), Fail> {
-    let alloc = rt.alloc();
-    let a = Var(0);
-    let b = Var(1);
-    // a*x^2 + b*x + c = 0 and x > 0
-    let form = formula(
-        alloc,
-        [[(GENERAL, EQUAL), (LINE, MORE)].as_slice()].as_slice(),
-    )?;
-    assert_eq!(rt; choose(&form, &[X, b, a]), Some(b));
-    assert_eq!(rt; choose(&form, &[X]), Some(X));
-    assert_eq!(rt; choose(&form, &[]), None);
-    let cube = Poly::power(alloc, X, 3)?;
-    let form = Form::Atom(Atom {
-        poly: cube,
-        signs: signs_of(EQUAL),
-    });
-    assert_eq!(rt; choose(&form, &[X]), None);
-    assert_eq!(rt; choose(&form, &[X, a, b]), Some(a));
-    Ok(())
+fn chooses_the_least_degree(rt: HostRuntime) {
+    let form = formula(rt.alloc(), &[&[(GENERAL, EQUAL), (LINE, MORE)]]);
+    assert!(rt; is_chosen_in(form, CHOICES));
+    assert!(rt; is_chosen_in(cube(rt.alloc()), HIGH_CHOICES));
 }

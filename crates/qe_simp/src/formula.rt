@@ -142,18 +142,30 @@ mod tests {
 
     use Part::{A, And, B, False, Linear, Not, Or, True};
 
-    fn product(alloc: Global, value: i128, var: u32) -> Result<Poly, PolyStop> {
-        let coef = Coef::of(value).unwrap_or(Coef::zero());
-        Poly::power(alloc, Var(var), 1)?.scale(alloc, coef)
+    fn coef(value: i128) -> Coef {
+        Coef::of(value).unwrap_or(Coef::zero())
+    }
+
+    // The sum with value times the variable.
+    fn with_term(alloc: Global, sum: &Poly, value: i128, var: u32) -> Result<Poly, PolyStop> {
+        let term = Poly::power(alloc, Var(var), 1)?.scale(alloc, coef(value))?;
+        sum.add(alloc, &term)
+    }
+
+    fn sum(alloc: Global, x: i128, y: i128, z: i128) -> Result<Poly, PolyStop> {
+        let number = Poly::constant(alloc, coef(z))?;
+        let line = with_term(alloc, &number, y, 1)?;
+        with_term(alloc, &line, x, 0)
+    }
+
+    fn signs_of(bits: u8) -> Signs {
+        Signs::of(bits % 2 == 1, bits / 2 % 2 == 1, bits / 4 % 2 == 1)
     }
 
     fn linear(alloc: Global, x: i128, y: i128, z: i128, bits: u8) -> Result<Form, PolyStop> {
-        let free = Poly::constant(alloc, Coef::of(z).unwrap_or(Coef::zero()))?;
-        let sum = product(alloc, x, 0)?.add(alloc, &product(alloc, y, 1)?)?;
-        Ok(Form::Atom(Atom {
-            poly: sum.add(alloc, &free)?,
-            signs: Signs::of(bits % 2 == 1, bits / 2 % 2 == 1, bits / 4 % 2 == 1),
-        }))
+        let poly = sum(alloc, x, y, z)?;
+        let signs = signs_of(bits);
+        Ok(Form::Atom(Atom { poly, signs }))
     }
 
     fn last(alloc: Global, stack: &mut Vec<Form>, count: u8) -> Result<Forms, OutOfMemory> {
@@ -172,17 +184,30 @@ mod tests {
         Ok(Form::Not(Box::new(alloc, form)?))
     }
 
-    fn next(alloc: Global, stack: &mut Vec<Form>, part: &Part) -> Result<Form, PolyStop> {
-        Ok(match *part {
-            Part::A(bits) => linear(alloc, 1, 0, 0, bits)?,
-            Part::B(bits) => linear(alloc, 0, 1, 0, bits)?,
-            Part::Linear(x, y, z, bits) => linear(alloc, x, y, z, bits)?,
-            Part::True => Form::True,
-            Part::False => Form::False,
-            Part::And(count) => Form::And(last(alloc, stack, count)?),
-            Part::Or(count) => Form::Or(last(alloc, stack, count)?),
-            Part::Not => negated(alloc, stack)?,
+    fn joined(
+        alloc: Global,
+        stack: &mut Vec<Form>,
+        connective: Connective,
+        count: u8,
+    ) -> Result<Form, PolyStop> {
+        let parts = last(alloc, stack, count)?;
+        Ok(match connective {
+            Connective::Conjunction => Form::And(parts),
+            Connective::Disjunction => Form::Or(parts),
         })
+    }
+
+    fn next(alloc: Global, stack: &mut Vec<Form>, part: &Part) -> Result<Form, PolyStop> {
+        match *part {
+            Part::A(bits) => linear(alloc, 1, 0, 0, bits),
+            Part::B(bits) => linear(alloc, 0, 1, 0, bits),
+            Part::Linear(x, y, z, bits) => linear(alloc, x, y, z, bits),
+            Part::True => Ok(Form::True),
+            Part::False => Ok(Form::False),
+            Part::And(count) => joined(alloc, stack, Connective::Conjunction, count),
+            Part::Or(count) => joined(alloc, stack, Connective::Disjunction, count),
+            Part::Not => Ok(negated(alloc, stack)?),
+        }
     }
 
     fn form(alloc: Global, parts: &[Part]) -> Result<Form, PolyStop> {
@@ -204,142 +229,149 @@ mod tests {
         matches!(compared(alloc, given, want), Ok(true))
     }
 
+    const THREE: &[(&[Part], &[Part])] = &[
+        (
+            &[Linear(2, 0, -4, LESS), Linear(-2, 0, 4, AT_MOST), Or(2)],
+            &[True],
+        ),
+        (&[A(LESS), Linear(-1, 0, 0, AT_MOST), And(2)], &[False]),
+        (
+            &[B(EQUAL), A(EQUAL), B(EQUAL), And(3)],
+            &[A(EQUAL), B(EQUAL), And(2)],
+        ),
+    ];
+
     #[test]
     fn simplifies_three_forms(rt: HostRuntime) {
-        let cases: [(&[Part], &[Part]); 3] = [
-            (
-                &[Linear(2, 0, -4, LESS), Linear(-2, 0, 4, AT_MOST), Or(2)],
-                &[True],
-            ),
-            (&[A(LESS), Linear(-1, 0, 0, AT_MOST), And(2)], &[False]),
-            (
-                &[B(EQUAL), A(EQUAL), B(EQUAL), And(3)],
-                &[A(EQUAL), B(EQUAL), And(2)],
-            ),
-        ];
-        for (given, want) in cases {
+        for (given, want) in THREE {
             assert!(rt; is_simplified(rt.alloc(), given, want));
         }
     }
+
+    const DECIDED: &[(&[Part], &[Part])] = &[
+        (&[Linear(0, 0, 0, EQUAL)], &[True]),
+        (&[Linear(0, 0, 0, LESS)], &[False]),
+        (&[Linear(0, 0, 3, GREATER)], &[True]),
+        (&[Linear(0, 0, -3, GREATER)], &[False]),
+        (&[Linear(0, 0, -3, OTHER)], &[True]),
+        (&[A(0)], &[False]),
+        (&[Linear(1, -2, 3, 7)], &[True]),
+        (&[Linear(0, 0, 5, 0)], &[False]),
+    ];
 
     #[test]
     fn decides_atoms(rt: HostRuntime) {
-        let cases: [(&[Part], &[Part]); 8] = [
-            (&[Linear(0, 0, 0, EQUAL)], &[True]),
-            (&[Linear(0, 0, 0, LESS)], &[False]),
-            (&[Linear(0, 0, 3, GREATER)], &[True]),
-            (&[Linear(0, 0, -3, GREATER)], &[False]),
-            (&[Linear(0, 0, -3, OTHER)], &[True]),
-            (&[A(0)], &[False]),
-            (&[Linear(1, -2, 3, 7)], &[True]),
-            (&[Linear(0, 0, 5, 0)], &[False]),
-        ];
-        for (given, want) in cases {
+        for (given, want) in DECIDED {
             assert!(rt; is_simplified(rt.alloc(), given, want));
         }
     }
+
+    const PRIMITIVE: &[(&[Part], &[Part])] = &[
+        (&[Linear(6, -4, 0, LESS)], &[Linear(3, -2, 0, LESS)]),
+        (&[Linear(-6, 4, 0, LESS)], &[Linear(3, -2, 0, GREATER)]),
+        (&[Linear(-1, -1, 0, AT_LEAST)], &[Linear(1, 1, 0, AT_MOST)]),
+        (&[Linear(0, -2, 2, EQUAL)], &[Linear(0, 1, -1, EQUAL)]),
+        (&[Linear(-1, 0, 0, OTHER)], &[A(OTHER)]),
+        (&[Linear(0, 3, -7, AT_MOST)], &[Linear(0, 3, -7, AT_MOST)]),
+        (&[Linear(0, -3, -9, AT_MOST)], &[Linear(0, 1, 3, AT_LEAST)]),
+    ];
 
     #[test]
     fn makes_atoms_primitive(rt: HostRuntime) {
-        let cases: [(&[Part], &[Part]); 7] = [
-            (&[Linear(6, -4, 0, LESS)], &[Linear(3, -2, 0, LESS)]),
-            (&[Linear(-6, 4, 0, LESS)], &[Linear(3, -2, 0, GREATER)]),
-            (&[Linear(-1, -1, 0, AT_LEAST)], &[Linear(1, 1, 0, AT_MOST)]),
-            (&[Linear(0, -2, 2, EQUAL)], &[Linear(0, 1, -1, EQUAL)]),
-            (&[Linear(-1, 0, 0, OTHER)], &[A(OTHER)]),
-            (&[Linear(0, 3, -7, AT_MOST)], &[Linear(0, 3, -7, AT_MOST)]),
-            (&[Linear(0, -3, -9, AT_MOST)], &[Linear(0, 1, 3, AT_LEAST)]),
-        ];
-        for (given, want) in cases {
+        for (given, want) in PRIMITIVE {
             assert!(rt; is_simplified(rt.alloc(), given, want));
         }
     }
+
+    const CONSTANTS: &[(&[Part], &[Part])] = &[
+        (&[And(0)], &[True]),
+        (&[Or(0)], &[False]),
+        (&[True, A(EQUAL), And(2)], &[A(EQUAL)]),
+        (&[A(EQUAL), False, Or(2)], &[A(EQUAL)]),
+        (&[A(EQUAL), False, And(2)], &[False]),
+        (&[True, A(EQUAL), Or(2)], &[True]),
+        (&[False, False, Or(2)], &[False]),
+        (&[A(LESS), Linear(0, 0, 5, GREATER), And(2)], &[A(LESS)]),
+        (&[A(LESS), Linear(0, 0, 5, LESS), And(2)], &[False]),
+        (&[A(EQUAL), Or(0), And(0), Or(3)], &[True]),
+    ];
 
     #[test]
     fn leaves_out_constants(rt: HostRuntime) {
-        let cases: [(&[Part], &[Part]); 10] = [
-            (&[And(0)], &[True]),
-            (&[Or(0)], &[False]),
-            (&[True, A(EQUAL), And(2)], &[A(EQUAL)]),
-            (&[A(EQUAL), False, Or(2)], &[A(EQUAL)]),
-            (&[A(EQUAL), False, And(2)], &[False]),
-            (&[True, A(EQUAL), Or(2)], &[True]),
-            (&[False, False, Or(2)], &[False]),
-            (&[A(LESS), Linear(0, 0, 5, GREATER), And(2)], &[A(LESS)]),
-            (&[A(LESS), Linear(0, 0, 5, LESS), And(2)], &[False]),
-            (&[A(EQUAL), Or(0), And(0), Or(3)], &[True]),
-        ];
-        for (given, want) in cases {
+        for (given, want) in CONSTANTS {
             assert!(rt; is_simplified(rt.alloc(), given, want));
         }
     }
+
+    const MERGED: &[(&[Part], &[Part])] = &[
+        (
+            &[A(AT_MOST), A(OTHER), Linear(-1, 0, 0, AT_LEAST), And(3)],
+            &[A(LESS)],
+        ),
+        (&[A(LESS), A(EQUAL), Linear(-1, 0, 0, LESS), Or(3)], &[True]),
+        (&[A(LESS), A(LESS), Or(2)], &[A(LESS)]),
+        (&[A(LESS), A(EQUAL), Or(2)], &[A(AT_MOST)]),
+        (&[A(LESS), A(GREATER), And(2), B(EQUAL), Or(2)], &[B(EQUAL)]),
+        (
+            &[A(LESS), A(AT_LEAST), Or(2), B(EQUAL), And(2)],
+            &[B(EQUAL)],
+        ),
+    ];
 
     #[test]
     fn merges_signs(rt: HostRuntime) {
-        let cases: [(&[Part], &[Part]); 6] = [
-            (
-                &[A(AT_MOST), A(OTHER), Linear(-1, 0, 0, AT_LEAST), And(3)],
-                &[A(LESS)],
-            ),
-            (&[A(LESS), A(EQUAL), Linear(-1, 0, 0, LESS), Or(3)], &[True]),
-            (&[A(LESS), A(LESS), Or(2)], &[A(LESS)]),
-            (&[A(LESS), A(EQUAL), Or(2)], &[A(AT_MOST)]),
-            (&[A(LESS), A(GREATER), And(2), B(EQUAL), Or(2)], &[B(EQUAL)]),
-            (
-                &[A(LESS), A(AT_LEAST), Or(2), B(EQUAL), And(2)],
-                &[B(EQUAL)],
-            ),
-        ];
-        for (given, want) in cases {
+        for (given, want) in MERGED {
             assert!(rt; is_simplified(rt.alloc(), given, want));
         }
     }
+
+    const FLAT: &[(&[Part], &[Part])] = &[
+        (
+            &[B(LESS), A(LESS), True, And(2), And(2)],
+            &[A(LESS), B(LESS), And(2)],
+        ),
+        (
+            &[B(LESS), A(LESS), Or(2), A(GREATER), Or(2)],
+            &[A(OTHER), B(LESS), Or(2)],
+        ),
+        (&[A(EQUAL), And(1), Or(1), And(1), And(1)], &[A(EQUAL)]),
+        (
+            &[B(EQUAL), Linear(1, 1, 0, EQUAL), A(EQUAL), And(3)],
+            &[A(EQUAL), Linear(1, 1, 0, EQUAL), B(EQUAL), And(3)],
+        ),
+        (
+            &[Linear(1, 0, -1, EQUAL), Linear(1, 1, 0, LESS), Or(2)],
+            &[Linear(1, 1, 0, LESS), Linear(1, 0, -1, EQUAL), Or(2)],
+        ),
+    ];
 
     #[test]
     fn flattens_and_sorts(rt: HostRuntime) {
-        let cases: [(&[Part], &[Part]); 5] = [
-            (
-                &[B(LESS), A(LESS), True, And(2), And(2)],
-                &[A(LESS), B(LESS), And(2)],
-            ),
-            (
-                &[B(LESS), A(LESS), Or(2), A(GREATER), Or(2)],
-                &[A(OTHER), B(LESS), Or(2)],
-            ),
-            (&[A(EQUAL), And(1), Or(1), And(1), And(1)], &[A(EQUAL)]),
-            (
-                &[B(EQUAL), Linear(1, 1, 0, EQUAL), A(EQUAL), And(3)],
-                &[A(EQUAL), Linear(1, 1, 0, EQUAL), B(EQUAL), And(3)],
-            ),
-            (
-                &[Linear(1, 0, -1, EQUAL), Linear(1, 1, 0, LESS), Or(2)],
-                &[Linear(1, 1, 0, LESS), Linear(1, 0, -1, EQUAL), Or(2)],
-            ),
-        ];
-        for (given, want) in cases {
+        for (given, want) in FLAT {
             assert!(rt; is_simplified(rt.alloc(), given, want));
         }
     }
 
+    const OTHER_PARTS: &[(&[Part], &[Part])] = &[
+        (
+            &[A(LESS), B(LESS), Or(2), B(LESS), A(LESS), Or(2), And(2)],
+            &[A(LESS), B(LESS), Or(2)],
+        ),
+        (
+            &[A(LESS), B(LESS), Or(2), A(EQUAL), And(2)],
+            &[A(EQUAL), A(LESS), B(LESS), Or(2), And(2)],
+        ),
+        (
+            &[A(LESS), B(LESS), And(2), A(LESS), Or(2)],
+            &[A(LESS), A(LESS), B(LESS), And(2), Or(2)],
+        ),
+        (&[True, Not, A(LESS), And(2)], &[A(LESS), True, Not, And(2)]),
+        (&[True, Not, True, Not, Or(2)], &[True, Not]),
+    ];
+
     #[test]
     fn keeps_other_parts_once(rt: HostRuntime) {
-        let cases: [(&[Part], &[Part]); 5] = [
-            (
-                &[A(LESS), B(LESS), Or(2), B(LESS), A(LESS), Or(2), And(2)],
-                &[A(LESS), B(LESS), Or(2)],
-            ),
-            (
-                &[A(LESS), B(LESS), Or(2), A(EQUAL), And(2)],
-                &[A(EQUAL), A(LESS), B(LESS), Or(2), And(2)],
-            ),
-            (
-                &[A(LESS), B(LESS), And(2), A(LESS), Or(2)],
-                &[A(LESS), A(LESS), B(LESS), And(2), Or(2)],
-            ),
-            (&[True, Not, A(LESS), And(2)], &[A(LESS), True, Not, And(2)]),
-            (&[True, Not, True, Not, Or(2)], &[True, Not]),
-        ];
-        for (given, want) in cases {
+        for (given, want) in OTHER_PARTS {
             assert!(rt; is_simplified(rt.alloc(), given, want));
         }
     }
