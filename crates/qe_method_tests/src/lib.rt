@@ -5,8 +5,12 @@
 #[cfg(test)]
 mod nodes;
 #[cfg(test)]
+mod points;
+#[cfg(test)]
 mod polynomials;
 #[cfg(test)]
 mod roots;
+#[cfg(test)]
+mod simplifier;
 #[cfg(test)]
 mod substitution;

@@ -6,8 +6,6 @@ mod candidate;
 mod choice;
 mod guard;
 mod listed;
-#[cfg(test)]
-mod tests;
 
 pub use candidate::{Candidate, Which};
 pub use choice::choose;

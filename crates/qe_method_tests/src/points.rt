@@ -1,11 +1,11 @@
 //! Choices, candidates, guards and points, worked out by hand. The variables are `a`, `b`, `c` and `x`, numbered from 0.
 
-use crate::{
+use qe_coef::{Coef, Op, Wide};
+use qe_form::{Atom, Forms, Sequence, Signs};
+use qe_points::{
     Candidate, Form, GuardedPoint, OutOfMemory, Point, Poly, PolyLimit, RootPoint, Stage,
     SubstStop, Var, Which, candidates, choose, guarded,
 };
-use qe_coef::{Coef, Op, Wide};
-use qe_form::{Atom, Forms, Sequence, Signs};
 use qe_poly::{PolyStop, Term};
 use std::alloc::Global;
 use std::fmt::Write;
