@@ -100,35 +100,3 @@ fn feed_all<H: Hasher>(forms: &Forms, state: &mut H)
         feed(form, state);
     }
 }
-
-#[cfg(test)]
-mod tests {
-    use super::*;
-    use crate::{OutOfMemory, Sequence};
-    use std::alloc::Global;
-    use std::hash::DefaultHasher;
-    use std::test::Fail;
-
-    fn hash_of(form: &Form) -> u64 {
-        let mut state = DefaultHasher::new();
-        form.hash(&mut state);
-        state.finish()
-    }
-
-    fn pair(alloc: Global, first: Form, second: Form) -> Result<Form, OutOfMemory> {
-        let mut forms = Sequence::new(alloc);
-        forms.push(first)?;
-        forms.push(second)?;
-        Ok(Form::And(forms))
-    }
-
-    #[test]
-    fn hashes_equal_formulas_alike(rt: HostRuntime) -> Result<(), Fail> {
-        let alloc = rt.alloc();
-        let form = pair(alloc, Form::True, Form::False)?;
-        assert_eq!(rt; hash_of(&form), hash_of(&form.copy(alloc)?));
-        let exchanged = pair(alloc, Form::False, Form::True)?;
-        assert!(rt; hash_of(&form) != hash_of(&exchanged));
-        Ok(())
-    }
-}

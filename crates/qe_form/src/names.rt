@@ -78,12 +78,17 @@ mod tests {
     use super::*;
     use std::test::Fail;
 
+    fn two_names(alloc: Global) -> Result<Names, OutOfMemory> {
+        let mut names = Names::new(alloc);
+        names.push(String::from_str(alloc, "x")?)?;
+        names.push(String::from_str(alloc, "y1")?)?;
+        Ok(names)
+    }
+
     #[test]
     fn finds_a_name_by_its_number(rt: HostRuntime) -> Result<(), Fail> {
-        let mut names = Names::new(rt.alloc());
-        assert_eq!(rt; names.len(), 0);
-        names.push(String::from_str(rt.alloc(), "x")?)?;
-        names.push(String::from_str(rt.alloc(), "y1")?)?;
+        assert_eq!(rt; Names::new(rt.alloc()).len(), 0);
+        let names = two_names(rt.alloc())?;
         assert_eq!(rt; names.len(), 2);
         assert_eq!(rt; names.items().len(), 2);
         assert_eq!(rt; names.items()[1].as_str(), "y1");

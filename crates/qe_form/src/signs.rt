@@ -97,29 +97,29 @@ mod tests {
     use super::*;
 
     // Minus, zero and plus of each set, then its bits, those of its complement and those of its mirror.
+    const SETS: [(bool, bool, bool, u8, u8, u8); 8] = [
+        (false, false, false, 0, 7, 0),
+        (true, false, false, 1, 6, 4),
+        (false, true, false, 2, 5, 2),
+        (true, true, false, 3, 4, 6),
+        (false, false, true, 4, 3, 1),
+        (true, false, true, 5, 2, 5),
+        (false, true, true, 6, 1, 3),
+        (true, true, true, 7, 0, 7),
+    ];
+
     #[test]
     fn knows_all_eight_sets(rt: HostRuntime) {
-        for (minus, zero, plus, bits, complement, mirror) in [
-            (false, false, false, 0, 7, 0),
-            (true, false, false, 1, 6, 4),
-            (false, true, false, 2, 5, 2),
-            (true, true, false, 3, 4, 6),
-            (false, false, true, 4, 3, 1),
-            (true, false, true, 5, 2, 5),
-            (false, true, true, 6, 1, 3),
-            (true, true, true, 7, 0, 7),
-        ] {
+        for (minus, zero, plus, bits, complement, mirror) in SETS {
             let signs = Signs::of(minus, zero, plus);
-            assert_eq!(rt; signs.bits(), bits);
-            assert_eq!(rt;
+            let got = (signs.has_minus(), signs.has_zero(), signs.has_plus());
+            assert!(rt; got == (minus, zero, plus), "members of {bits}");
+            let got = (
+                signs.bits(),
                 signs.complement().bits(),
-                complement,
-                "complement of {bits}"
+                signs.mirror().bits(),
             );
-            assert_eq!(rt; signs.mirror().bits(), mirror, "mirror of {bits}");
-            assert_eq!(rt; signs.has_minus(), minus, "minus in {bits}");
-            assert_eq!(rt; signs.has_zero(), zero, "zero in {bits}");
-            assert_eq!(rt; signs.has_plus(), plus, "plus in {bits}");
+            assert!(rt; got == (bits, complement, mirror), "bits of {bits}");
         }
     }
 
