@@ -10,8 +10,6 @@ mod names;
 mod negation;
 mod order;
 mod signs;
-#[cfg(test)]
-mod tests;
 
 pub use form::{Atom, Form, Forms};
 pub use names::{Input, Names};

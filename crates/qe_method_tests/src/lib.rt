@@ -3,6 +3,10 @@
 #![tactic(auto)]
 
 #[cfg(test)]
+mod formulas;
+#[cfg(test)]
+mod names;
+#[cfg(test)]
 mod nodes;
 #[cfg(test)]
 mod points;
@@ -10,6 +14,8 @@ mod points;
 mod polynomials;
 #[cfg(test)]
 mod roots;
+#[cfg(test)]
+mod signs;
 #[cfg(test)]
 mod simplifier;
 #[cfg(test)]

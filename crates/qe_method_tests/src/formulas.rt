@@ -1,6 +1,6 @@
 //! Copies, hashes, counts, degrees, negations and the order of formulas, worked out by hand.
 
-use crate::{Atom, Form, Forms, OutOfMemory, Poly, Sequence, Signs, Var};
+use qe_form::{Atom, Form, Forms, OutOfMemory, Poly, Sequence, Signs, Var};
 use std::alloc::Global;
 use std::hash::{DefaultHasher, Hash, Hasher};
 use std::test::Fail;
