@@ -7,4 +7,3 @@ mod token;
 pub use scan::tokens;
 pub use std::alloc::AllocError as OutOfMemory;
 pub use token::{Located, Name, Relation, Token};
-
