@@ -1,6 +1,7 @@
 //! Copies, hashes, counts, degrees, negations and the order of formulas, worked out by hand.
 
-use qe_form::{Atom, Form, Forms, OutOfMemory, Poly, Sequence, Signs, Var};
+use crate::built::signs_of;
+use qe_form::{Atom, Form, Forms, OutOfMemory, Poly, Sequence, Var};
 use std::alloc::Global;
 use std::hash::{DefaultHasher, Hash, Hasher};
 use std::test::Fail;
@@ -25,8 +26,10 @@ use Step::{All, And, Ex, False, Iff, Implies, Not, Or, Power, True};
 
 fn atom(alloc: Global, var: u32, exponent: u16, bits: u8) -> Result<Atom, OutOfMemory> {
     let poly = Poly::power(alloc, Var(var), u32::from(exponent))?;
-    let signs = Signs::of(bits & 1 != 0, bits & 2 != 0, bits & 4 != 0);
-    Ok(Atom { poly, signs })
+    Ok(Atom {
+        poly,
+        signs: signs_of(bits),
+    })
 }
 
 fn boxed(alloc: Global, form: Form) -> Result<Box<Form>, OutOfMemory> {

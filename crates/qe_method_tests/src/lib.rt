@@ -3,6 +3,8 @@
 #![tactic(auto)]
 
 #[cfg(test)]
+mod built;
+#[cfg(test)]
 mod formulas;
 #[cfg(test)]
 mod names;
@@ -18,5 +20,7 @@ mod roots;
 mod signs;
 #[cfg(test)]
 mod simplifier;
+#[cfg(test)]
+mod spelled;
 #[cfg(test)]
 mod substitution;

@@ -7,11 +7,12 @@ ghost use Rattle.qe_form.specs.Plain.{IsPlainAndProper};
 ghost use Rattle.qe_form.specs.Signs.{IsProper};
 ghost use Rattle.qe_form.specs.Tree.{tree, trees};
 
+use crate::built::{AT_MOST, EQUAL, LESS, MOST, NOT_EQUAL, coef};
 use qe_coef::{Coef, Op, Wide};
 use qe_form::{Atom, Forms, Signs};
 use qe_node::{
     Expander, Form, Made, Maker, Never, Next, Node, NodeStop, OutOfMemory, Piece, PolyLimit,
-    Sequence, Stage, Stop, Var, Vars, expand, root, successors,
+    Sequence, Stage, Stop, Var, expand, root, successors,
 };
 use qe_poly::{Poly, PolyStop};
 use std::alloc::Global;
@@ -22,17 +23,6 @@ type Row = (&'static [(i128, &'static [u32])], u8);
 
 /// The formulas of successors, each an And of atoms.
 type Wants = &'static [&'static [Row]];
-
-const LESS: u8 = 1;
-
-const EQUAL: u8 = 2;
-
-const AT_MOST: u8 = 3;
-
-const NOT_EQUAL: u8 = 5;
-
-/// The greatest coefficient.
-const MOST: i128 = i128::MAX;
 
 /// A formula that a node is made of.
 #[derive(Clone, Copy)]
@@ -59,13 +49,6 @@ const CUBIC: Given = Given::One((&[(1, &[0, 0, 0])], EQUAL));
 
 /// `M*x^2 + M*x + 1 = 0` with `x` as the variable 0.
 const TOO_GREAT: Given = Given::One((&[(MOST, &[0, 0]), (MOST, &[0]), (1, &[])], EQUAL));
-
-fn coef(value: i128) -> Coef {
-    match Coef::of(value) {
-        Some(coef) => coef,
-        None => Coef::zero(),
-    }
-}
 
 fn product(alloc: Global, number: i128, vars: &[u32]) -> Result<Poly, PolyStop> {
     let mut product = Poly::constant(alloc, coef(number))?;

@@ -1,158 +1,22 @@
 //! Choices, candidates, guards and points, worked out by hand. The variables are `a`, `b`, `c` and `x`, numbered from 0.
 
-use qe_coef::{Coef, Op, Wide};
-use qe_form::{Atom, Forms, Sequence, Signs};
+use crate::built::{
+    A, AT_LEAST, AT_MOST, B, C, EQUAL, LESS, Linear, MORE, MOST, NOT_EQUAL, ONE, ROOT, X, ZERO,
+    coef, number, quadratic, signs_of,
+};
+use crate::spelled::{push_form, push_poly};
+use qe_coef::{Op, Wide};
+use qe_form::{Atom, Forms, Sequence};
 use qe_points::{
     Candidate, Form, GuardedPoint, OutOfMemory, Point, Poly, PolyLimit, RootPoint, Stage,
     SubstStop, Var, Which, candidates, choose, guarded,
 };
-use qe_poly::{PolyStop, Term};
+use qe_poly::PolyStop;
 use std::alloc::Global;
 use std::fmt::Write;
 
-/// The greatest coefficient.
-const MOST: i128 = i128::MAX;
-
-/// Its square is just below it.
-const ROOT: i128 = 13043817825332782212;
-
-const X: Var = Var(3);
-
 /// A polynomial in `x` by its coefficients of `x^2`, `x` and 1, each `numbers[0]*a + numbers[1]*b + numbers[2]*c + numbers[3]`.
-type Numbers = [[i128; 4]; 3];
-
-const LESS: u8 = 1;
-
-const EQUAL: u8 = 2;
-
-const AT_MOST: u8 = 3;
-
-const MORE: u8 = 4;
-
-const NOT_EQUAL: u8 = 5;
-
-const AT_LEAST: u8 = 6;
-
-fn coef(value: i128) -> Coef {
-    Coef::of(value).unwrap_or(Coef::zero())
-}
-
-/// The sum with `value` times the variable.
-fn with_term(alloc: Global, sum: &Poly, value: i128, var: u32) -> Result<Poly, PolyStop> {
-    let term = Poly::power(alloc, Var(var), 1)?.scale(alloc, coef(value))?;
-    sum.add(alloc, &term)
-}
-
-/// `numbers[0]*a + numbers[1]*b + numbers[2]*c + numbers[3]`.
-fn linear(alloc: Global, numbers: [i128; 4]) -> Result<Poly, PolyStop> {
-    let number = Poly::constant(alloc, coef(numbers[3]))?;
-    let c = with_term(alloc, &number, numbers[2], 2)?;
-    let b = with_term(alloc, &c, numbers[1], 1)?;
-    with_term(alloc, &b, numbers[0], 0)
-}
-
-fn number(value: i128) -> [i128; 4] {
-    [0, 0, 0, value]
-}
-
-/// `value*x` with that sum of `a`, `b`, `c` and a number.
-fn next(alloc: Global, value: &Poly, numbers: [i128; 4]) -> Result<Poly, PolyStop> {
-    let product = value.mul(alloc, &Poly::power(alloc, X, 1)?)?;
-    product.add(alloc, &linear(alloc, numbers)?)
-}
-
-/// The polynomial in `x` with the three coefficients.
-fn quadratic(alloc: Global, coefficients: [[i128; 4]; 3]) -> Result<Poly, PolyStop> {
-    let square = linear(alloc, coefficients[0])?;
-    let line = next(alloc, &square, coefficients[1])?;
-    next(alloc, &line, coefficients[2])
-}
-
-/// A term without its sign, as `2*a^2*b`.
-fn push_term(out: &mut String, term: &Term) -> Result<(), OutOfMemory> {
-    let magnitude = term.coef.magnitude().value();
-    let powers = term.monomial.powers();
-    let mut before = "";
-    if magnitude != 1 || powers.is_empty() {
-        write!(out, "{magnitude}")?;
-        before = "*";
-    }
-    for power in powers {
-        out.push_str(before)?;
-        out.push_str(name(power.var))?;
-        if power.exponent != 1 {
-            write!(out, "^{}", power.exponent)?;
-        }
-        before = "*";
-    }
-    Ok(())
-}
-
-fn name(var: Var) -> &'static str {
-    match var.0 {
-        0 => "a",
-        1 => "b",
-        2 => "c",
-        _ => "x",
-    }
-}
-
-fn push_poly(out: &mut String, poly: &Poly) -> Result<(), OutOfMemory> {
-    let mut signs = ("-", "");
-    for term in poly.terms() {
-        out.push_str(if term.coef.value() < 0 {
-            signs.0
-        } else {
-            signs.1
-        })?;
-        push_term(out, term)?;
-        signs = (" - ", " + ");
-    }
-    if poly.terms().is_empty() {
-        out.push_str("0")?;
-    }
-    Ok(())
-}
-
-fn relation(signs: Signs) -> &'static str {
-    match signs.bits() {
-        1 => " < 0",
-        2 => " = 0",
-        3 => " <= 0",
-        4 => " > 0",
-        5 => " <> 0",
-        6 => " >= 0",
-        _ => " ?",
-    }
-}
-
-/// Each list of parts stands in brackets.
-#[cycle(push_form)]
-fn push_form(out: &mut String, form: &Form) -> Result<(), OutOfMemory> {
-    match form {
-        Form::Atom(atom) => {
-            push_poly(out, &atom.poly)?;
-            out.push_str(relation(atom.signs))
-        }
-        Form::And(parts) => push_parts(out, parts, " and "),
-        Form::Or(parts) => push_parts(out, parts, " or "),
-        Form::True => out.push_str("true"),
-        _ => out.push_str("?"),
-    }
-}
-
-#[cycle(push_form)]
-fn push_parts(out: &mut String, parts: &Forms, word: &str) -> Result<(), OutOfMemory> {
-    for (place, part) in parts.items().iter().enumerate() {
-        out.push_str(if place == 0 { "[" } else { word })?;
-        push_form(out, part)?;
-    }
-    out.push_str("]")
-}
-
-fn signs_of(bits: u8) -> Signs {
-    Signs::of(bits % 2 == 1, bits / 2 % 2 == 1, bits / 4 % 2 == 1)
-}
+type Numbers = [Linear; 3];
 
 /// The atom on the polynomial.
 fn atom(alloc: Global, numbers: Numbers, bits: u8) -> Result<Form, PolyStop> {
@@ -313,16 +177,6 @@ fn guarded_root(
         _ => Err(SubstStop::TooLarge),
     }
 }
-
-const ZERO: [i128; 4] = [0, 0, 0, 0];
-
-const ONE: [i128; 4] = [0, 0, 0, 1];
-
-const A: [i128; 4] = [1, 0, 0, 0];
-
-const B: [i128; 4] = [0, 1, 0, 0];
-
-const C: [i128; 4] = [0, 0, 1, 0];
 
 /// `a*x^2 + b*x + c`
 const GENERAL: Numbers = [A, B, C];

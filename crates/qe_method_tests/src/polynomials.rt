@@ -1,11 +1,10 @@
 //! Polynomials: what operations give, and the limits that they meet.
 
+use crate::built::{MOST, coef};
 use qe_coef::{Coef, Op, Wide};
 use qe_poly::{Poly, PolyLimit, PolyStop, Var};
 use std::alloc::Global;
 use std::cmp::Ordering;
-
-const MOST: i128 = i128::MAX;
 
 /// The exponents of the variables 0 to 3.
 type Exponents = [u16; 4];
@@ -24,10 +23,6 @@ const XX: Exponents = [2, 0, 0, 0];
 const XY: Exponents = [1, 1, 0, 0];
 
 const YY: Exponents = [0, 2, 0, 0];
-
-fn coef(value: i128) -> Coef {
-    Coef::of(value).unwrap_or(Coef::zero())
-}
 
 /// A term, by its coefficient and exponents.
 fn term_of(alloc: Global, value: i128, exponents: &Exponents) -> Result<Poly, PolyStop> {

@@ -1,158 +1,13 @@
 //! Values at roots and formulas for signs, worked out by hand. The variables are `a`, `b`, `c` and `x`, numbered from 0.
 
-use qe_coef::{Coef, Op, Wide};
-use qe_poly::Term;
-use qe_root::{
-    Form, Forms, OutOfMemory, Poly, PolyLimit, PolyStop, RootPoint, Signs, Var, at_root, sign_form,
+use crate::built::{
+    A, AT_LEAST, AT_MOST, B, C, EQUAL, LESS, MORE, MOST, NOT_EQUAL, ONE, ROOT, X, ZERO, coef,
+    linear, number, quadratic, root, signs_of,
 };
+use crate::spelled::{is_text, push_form, push_poly};
+use qe_coef::{Op, Wide};
+use qe_root::{Form, OutOfMemory, Poly, PolyLimit, PolyStop, at_root, sign_form};
 use std::alloc::Global;
-use std::fmt::Write;
-
-/// The greatest coefficient.
-const MOST: i128 = i128::MAX;
-
-/// Its square is just below it.
-const ROOT: i128 = 13043817825332782212;
-
-const X: Var = Var(3);
-
-const ZERO: [i128; 4] = [0, 0, 0, 0];
-
-const ONE: [i128; 4] = [0, 0, 0, 1];
-
-const A: [i128; 4] = [1, 0, 0, 0];
-
-const B: [i128; 4] = [0, 1, 0, 0];
-
-const C: [i128; 4] = [0, 0, 1, 0];
-
-fn coef(value: i128) -> Coef {
-    Coef::of(value).unwrap_or(Coef::zero())
-}
-
-/// The sum with `value` times the variable.
-fn with_term(alloc: Global, sum: &Poly, value: i128, var: u32) -> Result<Poly, PolyStop> {
-    let term = Poly::power(alloc, Var(var), 1)?.scale(alloc, coef(value))?;
-    sum.add(alloc, &term)
-}
-
-/// `numbers[0]*a + numbers[1]*b + numbers[2]*c + numbers[3]`.
-fn linear(alloc: Global, numbers: [i128; 4]) -> Result<Poly, PolyStop> {
-    let number = Poly::constant(alloc, coef(numbers[3]))?;
-    let c = with_term(alloc, &number, numbers[2], 2)?;
-    let b = with_term(alloc, &c, numbers[1], 1)?;
-    with_term(alloc, &b, numbers[0], 0)
-}
-
-fn number(value: i128) -> [i128; 4] {
-    [0, 0, 0, value]
-}
-
-/// `value*x` with that sum of `a`, `b`, `c` and a number.
-fn next(alloc: Global, value: &Poly, numbers: [i128; 4]) -> Result<Poly, PolyStop> {
-    let product = value.mul(alloc, &Poly::power(alloc, X, 1)?)?;
-    product.add(alloc, &linear(alloc, numbers)?)
-}
-
-/// The polynomial in `x` with the three coefficients.
-fn quadratic(alloc: Global, coefficients: [[i128; 4]; 3]) -> Result<Poly, PolyStop> {
-    let square = linear(alloc, coefficients[0])?;
-    let line = next(alloc, &square, coefficients[1])?;
-    next(alloc, &line, coefficients[2])
-}
-
-fn two(alloc: Global, first: [i128; 4], second: [i128; 4]) -> Result<(Poly, Poly), PolyStop> {
-    let first = linear(alloc, first)?;
-    Ok((first, linear(alloc, second)?))
-}
-
-/// The root `(p + q*sqrt(r))/s`.
-fn root(alloc: Global, parts: [[i128; 4]; 4]) -> Result<RootPoint, PolyStop> {
-    let (p, q) = two(alloc, parts[0], parts[1])?;
-    let (r, s) = two(alloc, parts[2], parts[3])?;
-    Ok(RootPoint { p, q, r, s })
-}
-
-/// A term without its sign, as `2*a^2*b`.
-fn push_term(out: &mut String, term: &Term) -> Result<(), OutOfMemory> {
-    let magnitude = term.coef.magnitude().value();
-    let powers = term.monomial.powers();
-    let mut before = "";
-    if magnitude != 1 || powers.is_empty() {
-        write!(out, "{magnitude}")?;
-        before = "*";
-    }
-    for power in powers {
-        out.push_str(before)?;
-        out.push_str(name(power.var))?;
-        if power.exponent != 1 {
-            write!(out, "^{}", power.exponent)?;
-        }
-        before = "*";
-    }
-    Ok(())
-}
-
-fn name(var: Var) -> &'static str {
-    match var.0 {
-        0 => "a",
-        1 => "b",
-        2 => "c",
-        _ => "x",
-    }
-}
-
-fn push_poly(out: &mut String, poly: &Poly) -> Result<(), OutOfMemory> {
-    let mut signs = ("-", "");
-    for term in poly.terms() {
-        out.push_str(if term.coef.value() < 0 {
-            signs.0
-        } else {
-            signs.1
-        })?;
-        push_term(out, term)?;
-        signs = (" - ", " + ");
-    }
-    if poly.terms().is_empty() {
-        out.push_str("0")?;
-    }
-    Ok(())
-}
-
-fn relation(signs: Signs) -> &'static str {
-    match signs.bits() {
-        1 => " < 0",
-        2 => " = 0",
-        3 => " <= 0",
-        4 => " > 0",
-        5 => " <> 0",
-        6 => " >= 0",
-        _ => " ?",
-    }
-}
-
-/// Each list of parts stands in brackets.
-#[cycle(push_form)]
-fn push_form(out: &mut String, form: &Form) -> Result<(), OutOfMemory> {
-    match form {
-        Form::Atom(atom) => {
-            push_poly(out, &atom.poly)?;
-            out.push_str(relation(atom.signs))
-        }
-        Form::And(parts) => push_parts(out, parts, " and "),
-        Form::Or(parts) => push_parts(out, parts, " or "),
-        _ => out.push_str("?"),
-    }
-}
-
-#[cycle(push_form)]
-fn push_parts(out: &mut String, parts: &Forms, word: &str) -> Result<(), OutOfMemory> {
-    for (place, part) in parts.items().iter().enumerate() {
-        out.push_str(if place == 0 { "[" } else { word })?;
-        push_form(out, part)?;
-    }
-    out.push_str("]")
-}
 
 fn form_text(alloc: Global, form: &Form) -> Result<String, OutOfMemory> {
     let mut out = String::new(alloc);
@@ -176,14 +31,6 @@ fn wide(op: Op, left: i128, right: i128) -> PolyStop {
         left: coef(left),
         right: coef(right),
     }))
-}
-
-/// Whether it is this text.
-fn is_text(found: Result<String, PolyStop>, want: &str) -> bool {
-    match found {
-        Ok(text) => text.as_str() == want,
-        Err(_) => false,
-    }
 }
 
 /// The two parts of the value of the polynomial at the root, by their coefficients.
@@ -331,22 +178,6 @@ fn tells_the_first_limit_of_a_value(rt: HostRuntime) {
         let met = value(rt.alloc(), coefficients, parts).err();
         assert_eq!(rt; met, Some(wide(op, left, right)));
     }
-}
-
-const LESS: u8 = 1;
-
-const EQUAL: u8 = 2;
-
-const AT_MOST: u8 = 3;
-
-const MORE: u8 = 4;
-
-const NOT_EQUAL: u8 = 5;
-
-const AT_LEAST: u8 = 6;
-
-fn signs_of(bits: u8) -> Signs {
-    Signs::of(bits % 2 == 1, bits / 2 % 2 == 1, bits / 4 % 2 == 1)
 }
 
 /// The text of the form for `A + B*sqrt(r)`.

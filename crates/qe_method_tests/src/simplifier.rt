@@ -1,22 +1,10 @@
 //! Formulas and their simplified forms.
 
-use qe_coef::Coef;
-use qe_form::{Atom, Form, Forms, Poly, Sequence, Signs, Var};
+use crate::built::{AT_LEAST, AT_MOST, EQUAL, LESS, MORE, NOT_EQUAL, coef, signs_of, with_term};
+use qe_form::{Atom, Form, Forms, Poly, Sequence};
 use qe_poly::PolyStop;
 use qe_simp::{OutOfMemory, simplify};
 use std::alloc::Global;
-
-const LESS: u8 = 1;
-
-const EQUAL: u8 = 2;
-
-const AT_MOST: u8 = 3;
-
-const GREATER: u8 = 4;
-
-const OTHER: u8 = 5;
-
-const AT_LEAST: u8 = 6;
 
 // A formula in postfix: a connective takes the last parts.
 enum Part {
@@ -34,24 +22,10 @@ enum Part {
 
 use Part::{A, And, B, False, Linear, Not, Or, True};
 
-fn coef(value: i128) -> Coef {
-    Coef::of(value).unwrap_or(Coef::zero())
-}
-
-// The sum with value times the variable.
-fn with_term(alloc: Global, sum: &Poly, value: i128, var: u32) -> Result<Poly, PolyStop> {
-    let term = Poly::power(alloc, Var(var), 1)?.scale(alloc, coef(value))?;
-    sum.add(alloc, &term)
-}
-
 fn sum(alloc: Global, x: i128, y: i128, z: i128) -> Result<Poly, PolyStop> {
     let number = Poly::constant(alloc, coef(z))?;
     let line = with_term(alloc, &number, y, 1)?;
     with_term(alloc, &line, x, 0)
-}
-
-fn signs_of(bits: u8) -> Signs {
-    Signs::of(bits % 2 == 1, bits / 2 % 2 == 1, bits / 4 % 2 == 1)
 }
 
 fn linear(alloc: Global, x: i128, y: i128, z: i128, bits: u8) -> Result<Form, PolyStop> {
@@ -138,9 +112,9 @@ fn simplifies_three_forms(rt: HostRuntime) {
 const DECIDED: &[(&[Part], &[Part])] = &[
     (&[Linear(0, 0, 0, EQUAL)], &[True]),
     (&[Linear(0, 0, 0, LESS)], &[False]),
-    (&[Linear(0, 0, 3, GREATER)], &[True]),
-    (&[Linear(0, 0, -3, GREATER)], &[False]),
-    (&[Linear(0, 0, -3, OTHER)], &[True]),
+    (&[Linear(0, 0, 3, MORE)], &[True]),
+    (&[Linear(0, 0, -3, MORE)], &[False]),
+    (&[Linear(0, 0, -3, NOT_EQUAL)], &[True]),
     (&[A(0)], &[False]),
     (&[Linear(1, -2, 3, 7)], &[True]),
     (&[Linear(0, 0, 5, 0)], &[False]),
@@ -155,10 +129,10 @@ fn decides_atoms(rt: HostRuntime) {
 
 const PRIMITIVE: &[(&[Part], &[Part])] = &[
     (&[Linear(6, -4, 0, LESS)], &[Linear(3, -2, 0, LESS)]),
-    (&[Linear(-6, 4, 0, LESS)], &[Linear(3, -2, 0, GREATER)]),
+    (&[Linear(-6, 4, 0, LESS)], &[Linear(3, -2, 0, MORE)]),
     (&[Linear(-1, -1, 0, AT_LEAST)], &[Linear(1, 1, 0, AT_MOST)]),
     (&[Linear(0, -2, 2, EQUAL)], &[Linear(0, 1, -1, EQUAL)]),
-    (&[Linear(-1, 0, 0, OTHER)], &[A(OTHER)]),
+    (&[Linear(-1, 0, 0, NOT_EQUAL)], &[A(NOT_EQUAL)]),
     (&[Linear(0, 3, -7, AT_MOST)], &[Linear(0, 3, -7, AT_MOST)]),
     (&[Linear(0, -3, -9, AT_MOST)], &[Linear(0, 1, 3, AT_LEAST)]),
 ];
@@ -178,7 +152,7 @@ const CONSTANTS: &[(&[Part], &[Part])] = &[
     (&[A(EQUAL), False, And(2)], &[False]),
     (&[True, A(EQUAL), Or(2)], &[True]),
     (&[False, False, Or(2)], &[False]),
-    (&[A(LESS), Linear(0, 0, 5, GREATER), And(2)], &[A(LESS)]),
+    (&[A(LESS), Linear(0, 0, 5, MORE), And(2)], &[A(LESS)]),
     (&[A(LESS), Linear(0, 0, 5, LESS), And(2)], &[False]),
     (&[A(EQUAL), Or(0), And(0), Or(3)], &[True]),
 ];
@@ -192,13 +166,13 @@ fn leaves_out_constants(rt: HostRuntime) {
 
 const MERGED: &[(&[Part], &[Part])] = &[
     (
-        &[A(AT_MOST), A(OTHER), Linear(-1, 0, 0, AT_LEAST), And(3)],
+        &[A(AT_MOST), A(NOT_EQUAL), Linear(-1, 0, 0, AT_LEAST), And(3)],
         &[A(LESS)],
     ),
     (&[A(LESS), A(EQUAL), Linear(-1, 0, 0, LESS), Or(3)], &[True]),
     (&[A(LESS), A(LESS), Or(2)], &[A(LESS)]),
     (&[A(LESS), A(EQUAL), Or(2)], &[A(AT_MOST)]),
-    (&[A(LESS), A(GREATER), And(2), B(EQUAL), Or(2)], &[B(EQUAL)]),
+    (&[A(LESS), A(MORE), And(2), B(EQUAL), Or(2)], &[B(EQUAL)]),
     (
         &[A(LESS), A(AT_LEAST), Or(2), B(EQUAL), And(2)],
         &[B(EQUAL)],
@@ -218,8 +192,8 @@ const FLAT: &[(&[Part], &[Part])] = &[
         &[A(LESS), B(LESS), And(2)],
     ),
     (
-        &[B(LESS), A(LESS), Or(2), A(GREATER), Or(2)],
-        &[A(OTHER), B(LESS), Or(2)],
+        &[B(LESS), A(LESS), Or(2), A(MORE), Or(2)],
+        &[A(NOT_EQUAL), B(LESS), Or(2)],
     ),
     (&[A(EQUAL), And(1), Or(1), And(1), And(1)], &[A(EQUAL)]),
     (

@@ -6,34 +6,19 @@ ghost use Rattle.qe_poly.specs.Coefficients.{degree_in};
 ghost use Rattle.qe_form.specs.Plain.{IsPlainAndProper};
 ghost use Rattle.qe_form.specs.Tree.{tree};
 
-use qe_coef::{Coef, Op, Wide};
+use crate::built::{
+    A, AT_LEAST, AT_MOST, B, C, EQUAL, LESS, Linear, MORE, MOST, NOT_EQUAL, ONE, X, ZERO,
+    quadratic, root, signs_of,
+};
+use crate::spelled::{is_text, push_form};
+use qe_coef::Op;
 use qe_form::{Atom, Sequence};
-use qe_poly::Term;
 use qe_subst::{
-    Form, Forms, OutOfMemory, Point, Poly, PolyLimit, PolyStop, RootPoint, Signs, Stage, SubstStop,
-    Var, substitute,
+    Form, OutOfMemory, Point, Poly, PolyLimit, PolyStop, Signs, Stage, SubstStop, substitute,
 };
 use std::alloc::Global;
 use std::fmt::Write;
 use std::test::Fail;
-
-/// The greatest coefficient.
-const MOST: i128 = i128::MAX;
-
-const X: Var = Var(3);
-
-/// `numbers[0]*a + numbers[1]*b + numbers[2]*c + numbers[3]`.
-type Linear = [i128; 4];
-
-const ZERO: Linear = [0, 0, 0, 0];
-
-const ONE: Linear = [0, 0, 0, 1];
-
-const A: Linear = [1, 0, 0, 0];
-
-const B: Linear = [0, 1, 0, 0];
-
-const C: Linear = [0, 0, 1, 0];
 
 const MINUS_A: Linear = [-1, 0, 0, 0];
 
@@ -44,128 +29,6 @@ const TWICE_B: Linear = [0, 2, 0, 0];
 const TWO: Linear = [0, 0, 0, 2];
 
 const GREATEST: Linear = [0, 0, 0, MOST];
-
-fn coef(value: i128) -> Coef {
-    Coef::of(value).unwrap_or(Coef::zero())
-}
-
-/// The sum with `value` times the variable.
-fn with_term(alloc: Global, sum: &Poly, value: i128, var: u32) -> Result<Poly, PolyStop> {
-    let term = Poly::power(alloc, Var(var), 1)?.scale(alloc, coef(value))?;
-    sum.add(alloc, &term)
-}
-
-fn linear(alloc: Global, numbers: Linear) -> Result<Poly, PolyStop> {
-    let number = Poly::constant(alloc, coef(numbers[3]))?;
-    let c = with_term(alloc, &number, numbers[2], 2)?;
-    let b = with_term(alloc, &c, numbers[1], 1)?;
-    with_term(alloc, &b, numbers[0], 0)
-}
-
-/// `value*x` with that sum of `a`, `b`, `c` and a number.
-fn next(alloc: Global, value: &Poly, numbers: Linear) -> Result<Poly, PolyStop> {
-    let product = value.mul(alloc, &Poly::power(alloc, X, 1)?)?;
-    product.add(alloc, &linear(alloc, numbers)?)
-}
-
-/// The polynomial in `x` with the three coefficients.
-fn quadratic(alloc: Global, coefficients: [Linear; 3]) -> Result<Poly, PolyStop> {
-    let square = linear(alloc, coefficients[0])?;
-    let line = next(alloc, &square, coefficients[1])?;
-    next(alloc, &line, coefficients[2])
-}
-
-/// The root `(p + q*sqrt(r))/s`.
-fn root(alloc: Global, parts: [Linear; 4]) -> Result<RootPoint, PolyStop> {
-    let p = linear(alloc, parts[0])?;
-    let q = linear(alloc, parts[1])?;
-    let r = linear(alloc, parts[2])?;
-    let s = linear(alloc, parts[3])?;
-    Ok(RootPoint { p, q, r, s })
-}
-
-/// A term without its sign, as `2*a^2*b`.
-fn push_term(out: &mut String, term: &Term) -> Result<(), OutOfMemory> {
-    let magnitude = term.coef.magnitude().value();
-    let powers = term.monomial.powers();
-    let mut before = "";
-    if magnitude != 1 || powers.is_empty() {
-        write!(out, "{magnitude}")?;
-        before = "*";
-    }
-    for power in powers {
-        out.push_str(before)?;
-        out.push_str(name(power.var))?;
-        if power.exponent != 1 {
-            write!(out, "^{}", power.exponent)?;
-        }
-        before = "*";
-    }
-    Ok(())
-}
-
-fn name(var: Var) -> &'static str {
-    match var.0 {
-        0 => "a",
-        1 => "b",
-        2 => "c",
-        _ => "x",
-    }
-}
-
-fn push_poly(out: &mut String, poly: &Poly) -> Result<(), OutOfMemory> {
-    let mut signs = ("-", "");
-    for term in poly.terms() {
-        out.push_str(if term.coef.value() < 0 {
-            signs.0
-        } else {
-            signs.1
-        })?;
-        push_term(out, term)?;
-        signs = (" - ", " + ");
-    }
-    if poly.terms().is_empty() {
-        out.push_str("0")?;
-    }
-    Ok(())
-}
-
-fn relation(signs: Signs) -> &'static str {
-    match signs.bits() {
-        1 => " < 0",
-        2 => " = 0",
-        3 => " <= 0",
-        4 => " > 0",
-        5 => " <> 0",
-        6 => " >= 0",
-        _ => " ?",
-    }
-}
-
-/// Each list of parts stands in brackets.
-#[cycle(push_form)]
-fn push_form(out: &mut String, form: &Form) -> Result<(), OutOfMemory> {
-    match form {
-        Form::True => out.push_str("true"),
-        Form::False => out.push_str("false"),
-        Form::Atom(atom) => {
-            push_poly(out, &atom.poly)?;
-            out.push_str(relation(atom.signs))
-        }
-        Form::And(parts) => push_parts(out, parts, " and "),
-        Form::Or(parts) => push_parts(out, parts, " or "),
-        _ => out.push_str("?"),
-    }
-}
-
-#[cycle(push_form)]
-fn push_parts(out: &mut String, parts: &Forms, word: &str) -> Result<(), OutOfMemory> {
-    for (place, part) in parts.items().iter().enumerate() {
-        out.push_str(if place == 0 { "[" } else { word })?;
-        push_form(out, part)?;
-    }
-    out.push_str("]")
-}
 
 fn push_limit(out: &mut String, limit: PolyLimit) -> Result<(), OutOfMemory> {
     match limit {
@@ -204,22 +67,6 @@ fn outcome_text(alloc: Global, outcome: Result<Form, SubstStop>) -> Result<Strin
         Err(SubstStop::OutOfMemory) => out.push_str("no memory")?,
     }
     Ok(out)
-}
-
-const LESS: u8 = 1;
-
-const EQUAL: u8 = 2;
-
-const AT_MOST: u8 = 3;
-
-const MORE: u8 = 4;
-
-const NOT_EQUAL: u8 = 5;
-
-const AT_LEAST: u8 = 6;
-
-fn signs_of(bits: u8) -> Signs {
-    Signs::of(bits % 2 == 1, bits / 2 % 2 == 1, bits / 4 % 2 == 1)
 }
 
 /// What stands for one atom, as text.
@@ -284,14 +131,6 @@ fn own_text(
     let point = point_of(alloc, [ZERO, ZERO, ZERO, TWICE_B], plus)?;
     let poly = quadratic(alloc, coefficients)?;
     Ok(atom_text(alloc, poly, bits, &point, Some(&own))?)
-}
-
-/// Whether it is this text.
-fn is_text(found: Result<String, PolyStop>, want: &str) -> bool {
-    match found {
-        Ok(text) => text.as_str() == want,
-        Err(_) => false,
-    }
 }
 
 // At a, a root without a square root, and just above it: the coefficients of x^2, x and 1, the relation, and what stands for the atom.
