@@ -29,7 +29,7 @@ same_sign_of_value q p r valid_p valid_r same =
     ∙ ap sign_of (value-number r valid_r q))
 
 -- one more variable, with one number
-same_with : (x : ℕ) (v : Number) → IsNumber v → (p r : Point) → SameNumbers p r → SameNumbers ((x, v) ∷ p) ((x, v) ∷ r)
+pub same_with : (x : ℕ) (v : Number) → IsNumber v → (p r : Point) → SameNumbers p r → SameNumbers ((x, v) ∷ p) ((x, v) ∷ r)
 same_with x v valid p r same y = elim (eqb x y) as (λ b. SameNumber (if b then Some v else look_up p y) (if b then Some v else look_up r y)) [ true ↦ R.same (v, valid) | false ↦ same y ]
 
 mutual
@@ -76,7 +76,7 @@ turned None (Some w) valid_a valid_b same = absurd same
 turned (Some v) None valid_a valid_b same = absurd same
 turned (Some v) (Some w) valid_v valid_w same = R.back (v, valid_v) (w, valid_w) same
 
-same_back : (p r : Point) → IsPoint p → IsPoint r → SameNumbers p r → SameNumbers r p
+pub same_back : (p r : Point) → IsPoint p → IsPoint r → SameNumbers p r → SameNumbers r p
 same_back p r valid_p valid_r same x = turned (look_up p x) (look_up r x) (number_at_valid p valid_p x) (number_at_valid r valid_r x) (same x)
 
 pub equal_points : EqualPoints

@@ -13,3 +13,5 @@ pub mod Fed
 pub mod Negation
 pub mod OrderLaws
 pub mod Laws
+pub mod Holds
+pub mod HoldsLaws

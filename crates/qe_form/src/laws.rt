@@ -1,6 +1,7 @@
 //! The laws of values, of truth and of the order. Each function does nothing: its clause is the law.
 
 ghost use Rattle.qe_form.specs.Laws.{NeverBoth, Decided, Classical, SameIsPreorder, SameIsKept, SameIsLiteral, PreservesIsSame, PreservesIsPreorder, PreservesIsKept, CoresAreDecided, ValueOfSum, ValueOfNegative, ValueOfProduct, ValueOfMultiple, ValueOfRenamed, EqualPoints, OccurringIsFree, OrderIsTotal};
+ghost use Rattle.qe_form.specs.HoldsLaws.{HoldsIsStable, HoldsIsSound, HoldsIsTruth, HoldsClassically, HoldsAtEqualPoints, HoldsReadsFree, SettlesLaws};
 
 /// No formula is both true and false at a point.
 pub fn never_both()
@@ -90,4 +91,40 @@ pub fn occurring_is_free()
 /// The order of formulas is total, and ties exactly where they are equal.
 pub fn order_is_total()
     ensures { OrderIsTotal }
+{}
+
+/// What does not fail holds.
+pub fn holds_is_stable()
+    ensures { HoldsIsStable }
+{}
+
+/// A formula holds where it is true, and does not where it is false.
+pub fn holds_is_sound()
+    ensures { HoldsIsSound }
+{}
+
+/// Where a formula is true or false, it holds where it is true, and does not where it is false.
+pub fn holds_is_truth()
+    ensures { HoldsIsTruth }
+{}
+
+/// A formula holds at both or at none of two points that give equal numbers to the same variables.
+pub fn holds_at_equal_points()
+    ensures { HoldsAtEqualPoints }
+{}
+
+/// Whether a formula holds depends on what its free variables count as.
+pub fn holds_reads_free()
+    ensures { HoldsReadsFree }
+{}
+
+/// What is the same as a formula that holds where another does, and has no quantifier, settles that other one. What settles a formula
+/// preserves it, and is the same as it where it is decided.
+pub fn settles_laws()
+    ensures { SettlesLaws }
+{}
+
+/// Where excluded middle holds of truth at a point, to hold is to be true, and to fail is to be false.
+pub fn holds_classically()
+    ensures { HoldsClassically }
 {}

@@ -10,3 +10,7 @@ pub mod Mirrors
 pub mod Loops
 pub mod Wholes
 pub mod Assembled
+pub mod Negatives
+pub mod NormalHolds
+pub mod OutwardsHold
+pub mod WalksHold

@@ -57,10 +57,10 @@ abbrev pub Ranging : Bool → (Number → Type 0) → Type 0
 Ranging true P = (v : Number) × IsNumber v × P v
 Ranging false P = (v : Number) → IsNumber v → P v
 
-zero_number : Number
+pub zero_number : Number
 zero_number = whole_number (pos 0)
 
-zero_valid : IsNumber zero_number
+pub zero_valid : IsNumber zero_number
 unfolding zero_number
 zero_valid = tt
 
@@ -234,7 +234,7 @@ free_prenex f z r o =
     let h = free_under (prefix f) (matrix f) z o in
     elim (free_matrix f z r h.1) [ inl k ↦ k | inr k ↦ absurd (h.0 (binds_prefix f z r k)) ]
 
-free_prenexes : (fs : Formulas) (z : ℕ) → AreReady fs → (m : Formula) → (IsFree z m → IsFreeInSome z (matrix_each fs)) → IsFree z (under (prefix_each fs) m) → IsFreeInSome z fs
+pub free_prenexes : (fs : Formulas) (z : ℕ) → AreReady fs → (m : Formula) → (IsFree z m → IsFreeInSome z (matrix_each fs)) → IsFree z (under (prefix_each fs) m) → IsFreeInSome z fs
 free_prenexes fs z r m is o =
     let h = free_under (prefix_each fs) m z o in
     elim (free_matrices fs z r (is h.1)) [ inl k ↦ k | inr k ↦ absurd (h.0 (bind_prefixes fs z r k)) ]
@@ -262,7 +262,7 @@ joint_moved true A B C D p q t = (p t.0, q t.1)
 joint_moved false A B C D p q t = elim t [ inl a ↦ inl (p a) | inr c ↦ inr (q c) ]
 
 -- the quantifiers of the later parts have no variable of the first matrix
-apart_right : (f : Formula) (fs : Formulas) (z : ℕ) → IsReady f × AreReady fs → Disjoint f fs → IsVariable z (prefix_each fs) → IsFree z (matrix f) → ⊥
+pub apart_right : (f : Formula) (fs : Formulas) (z : ℕ) → IsReady f × AreReady fs → Disjoint f fs → IsVariable z (prefix_each fs) → IsFree z (matrix f) → ⊥
 apart_right f fs z r d i o = elim (free_matrix f z r.0 o) [ inl k ↦ d.1 z (prefixes_bind fs z r.1 i) k | inr k ↦ d.0 z k (inr (prefixes_bind fs z r.1 i)) ]
 
 mutual

@@ -144,7 +144,7 @@ module _ (n : ℕ) (Bound : ℕ → Type 0) (below : (z : ℕ) → Bound z → z
     body_source : (z : ℕ) → IsSource z (within w x rs) → IsSource z rs ⊎ (x ≡ z)
     body_source z = elim (is_copy w x) as (λ b. IsSource z (cond b (rs ++ copied ∷ []) rs) → IsSource z rs ⊎ (x ≡ z)) [ true ↦ λ s. source_push z rs copied s | false ↦ λ s. inl s ]
 
-    body_small : (z : ℕ) → IsFree z f → z < n
+    pub body_small : (z : ℕ) → IsFree z f → z < n
     body_small z o = elim (cases_eq z x) [ inl e ↦ (let k = x_small in let d = e in omega arith) | inr e ↦ fits.small z (e, o) ]
 
     pub body_fits : Fits f (within w x rs) (after w x)
@@ -188,7 +188,7 @@ module _ (n : ℕ) (Bound : ℕ → Type 0) (below : (z : ℕ) → Bound z → z
       seen_x : number_at ((x, u) ∷ seen rs p) z ≡ wanted
       seen_x = elim (eqb x z) as (λ b. or_zero (if b then Some u else look_up (seen rs p) z) ≡ cond b u (or_zero (look_up (seen rs p) z))) [ true ↦ refl | false ↦ refl ]
 
-      seen_alike : number_at ((x, u) ∷ seen rs p) z ≡ number_at (seen (within w x rs) ((number w x, u) ∷ p)) z
+      pub seen_alike : number_at ((x, u) ∷ seen rs p) z ≡ number_at (seen (within w x rs) ((number w x, u) ∷ p)) z
       seen_alike = seen_x ∙ sym seen_within
 
     module _ (g : Formula) (v : Walked) (made : Made f (within w x rs) (after w x) g v) where
@@ -263,7 +263,7 @@ module _ (n : ℕ) (Bound : ℕ → Type 0) (below : (z : ℕ) → Bound z → z
   }
 
   -- what is asked of Or is what is asked of And
-  as_and : (fs : Formulas) (rs : List Renaming) (w : Walked) → Fits (Or fs) rs w → Fits (And fs) rs w
+  pub as_and : (fs : Formulas) (rs : List Renaming) (w : Walked) → Fits (Or fs) rs w → Fits (And fs) rs w
   as_and fs rs w h = record {
     walked = h.walked;
     room = h.room;
@@ -291,7 +291,7 @@ module _ (n : ℕ) (Bound : ℕ → Type 0) (below : (z : ℕ) → Bound z → z
   }
 
   module _ (f : Formula) (fs : Formulas) (rs : List Renaming) (w : Walked) (fits : Fits (And (more f fs)) rs w) where
-    first_fits : Fits f rs w
+    pub first_fits : Fits f rs w
     first_fits = record {
       walked = fits.walked;
       room = (let h = fits.room in omega arith);
@@ -305,7 +305,7 @@ module _ (n : ℕ) (Bound : ℕ → Type 0) (below : (z : ℕ) → Bound z → z
     }
 
     module _ (g : Formula) (v : Walked) (first : Made f rs w g v) where
-      rest_fits : Fits (And fs) rs v
+      pub rest_fits : Fits (And fs) rs v
       rest_fits = record {
         walked = first.step.walked;
         room = (let h = fits.room in let k = first.step.grows in omega arith);

@@ -11,6 +11,7 @@ use Rattle.qe_form.specs.Plain.{IsPlain}
 use Rattle.qe_form.specs.Numbered as input_names
 use Rattle.qe_form.specs.Numbered.{Occurs, OccursInOne, binders}
 use Rattle.qe_form.specs.Preserved.{Preserves, IsDecided, HasDecidedCore}
+use Rattle.qe_form.specs.Holds.{HoldAlike}
 use Rattle.qe_form.proofs.Sameness.{same_is_preorder, same_is_kept}
 use Rattle.qe_form.proofs.Preservation.{preserves_is_same}
 use Rattle.qe_norm.specs.declared.prenex.Prenex.{Prenex}
@@ -23,6 +24,10 @@ use Rattle.qe_norm.proofs.Binders.{Binds, BindsIn, nested, contains_binder, bind
 use Rattle.qe_norm.proofs.Steps.{IsTaken, is_met}
 use Rattle.qe_norm.proofs.Outwards.{under, prefix_binds, free_under, free_prenex, outwards}
 use Rattle.qe_norm.proofs.Walks.{Fits, Made, made, body_fits, as_ex}
+use Rattle.qe_norm.proofs.Negatives.{chain, turned}
+use Rattle.qe_norm.proofs.NormalHolds.{normal_form_holds}
+use Rattle.qe_norm.proofs.OutwardsHold.{outwards_hold}
+use Rattle.qe_norm.proofs.WalksHold.{walk_holds}
 use Rattle.qe_norm.proofs.Grouping.{meaning_grouped, variables_grouped, few_grouped, short_grouped}
 use Rattle.qe_norm.proofs.Matrices.{own_prefix, contained, occurs_under, occurs_matrix, plain_matrix, count_parts}
 
@@ -205,6 +210,10 @@ module _ (f : Formula) (names : List (List ℕ)) (well : input_names.IsWellNumbe
     pub same : HasDecidedCore f → Same f (stands_for p)
     same core = subst (λ h. Same f h) (sym stands)
         (same_is_preorder.transitive f nf (under (prefix g) (matrix g)) (normal_is_same f) (same_core n Bound below true f core (start names) fits (λ z h. get_or-replicate n z false false (below z (binds_normal true f z h)))))
+
+    pub holds : HoldAlike f (stands_for p)
+    holds = subst (λ h. HoldAlike f h) (sym stands)
+        (λ q valid. chain (turned (normal_form_holds true f q)) (chain (walk_holds n Bound below nf [] (start names) fits q valid) (outwards_hold g result.ready result.apart q)))
 
     named : (z : ℕ) → IsFree z g ⊎ Binds z g → z < length last.names
     named z h =

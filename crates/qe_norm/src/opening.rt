@@ -7,6 +7,7 @@ ghost use Rattle.qe_form.specs.Same.{Same};
 ghost use Rattle.qe_form.specs.Plain.{IsPlain};
 ghost use Rattle.qe_form.specs.Numbered as input_names;
 ghost use Rattle.qe_form.specs.Preserved.{Preserves, HasDecidedCore};
+ghost use Rattle.qe_form.specs.Holds.{HoldAlike};
 ghost use Rattle.qe_norm.specs.Prenex.{Answers, PrenexAnswers, IsWellNumbered, stands_for};
 
 use crate::group::group;
@@ -37,7 +38,7 @@ pub fn prenex(alloc: Global, form: &Form, names: Names) -> Result<Prenex, NormSt
 /// `TooLarge` comes where the prenex form has more than 65,536 atoms, constants and quantifiers; it is not built then. The
 /// variables of the input are well numbered, and fewer than 2^31.
 ///
-/// The prenex form is true where the input is, and false where it is. That it is the same, both ways, wants that what
+/// The prenex form holds exactly where the input does. It is true where the input is, and false where it is. That it is the same, both ways, wants that what
 /// stands behind the outer quantifiers and negations is true or false at each point, as it is where excluded middle holds.
 pub fn normal(alloc: Global, input: Input) -> Result<Prenex, NormStop>
     requires numbered { input_names.IsWellNumbered (tree input.form) input.names }
@@ -45,6 +46,7 @@ pub fn normal(alloc: Global, input: Input) -> Result<Prenex, NormStop>
     ensures exact { Answers (tree input.form) input.names result }
     ensures keeps { IfOk result (λ p. Preserves (tree input.form) (stands_for p)) }
     ensures same { IfOk result (λ p. HasDecidedCore (tree input.form) → Same (tree input.form) (stands_for p)) }
+    ensures holds { IfOk result (λ p. HoldAlike (tree input.form) (stands_for p)) }
     ensures well_numbered { IfOk result (λ p. IsWellNumbered p) }
     ensures plain { IfOk result (λ p. IsPlain (tree p.matrix)) }
     ensures small { IfOk result (λ p. count (tree p.matrix) ≤ 65536) }

@@ -6,8 +6,10 @@ use Rattle.qe_form.specs.declared.names.Input.{Input}
 use Rattle.qe_form.specs.Formula.{Formula}
 use Rattle.qe_form.specs.Tree.{tree}
 use Rattle.qe_form.specs.Same.{HasNoQuantifier, Same}
+use Rattle.qe_form.specs.Holds.{HoldAlike}
 use Rattle.qe_form.specs.Preserved.{Preserves, HasDecidedCore}
 use Rattle.qe_form.proofs.Preservation.{preserves_is_preorder, cores_are_decided}
+use Rattle.qe_form.proofs.Settling.{settles}
 use Rattle.qe_form.proofs.Sameness.{same_is_preorder}
 use Rattle.qe_read.specs.declared.fault.ReadFault.{ReadFault}
 use Rattle.qe_read.specs.declared.fault.ReadFault.TheVariants as read
@@ -26,7 +28,7 @@ use Rattle.qe_program.specs.Reply.{Says, RepliesByFormula, RepliesByNode, Replie
 
 -- ---- a prenex form
 
-module _ (limit : ℕ) (f : Formula) (names : List Letters) (whole : Formula) (keeps : Preserves f whole) (same : HasDecidedCore f → Same f whole) (small : IsSmall f) (reply : Reply) where
+module _ (limit : ℕ) (f : Formula) (names : List Letters) (whole : Formula) (keeps : Preserves f whole) (alike : HoldAlike f whole) (same : HasDecidedCore f → Same f whole) (small : IsSmall f) (reply : Reply) where
   by_formula : RepliesByFormula limit (blocks f names) (matrix f names) (all_names f names) whole reply → RepliesToFormula limit f names reply
   by_formula r =
       let all_same : HasDecidedCore f → Same f r.answer = λ core. same_is_preorder.transitive f whole r.answer (same core) r.same in
@@ -36,6 +38,7 @@ module _ (limit : ℕ) (f : Formula) (names : List Letters) (whole : Formula) (k
           answer = r.answer;
           written = r.says.1;
           no_quantifier = r.no_quantifier;
+          settles = settles f whole r.answer keeps.free alike r.same r.no_quantifier;
           keeps = preserves_is_preorder.transitive f whole r.answer keeps (preserves_is_preorder.same whole r.answer r.same);
           same_points = all_same;
           same_outer = λ outer. all_same (cores_are_decided.outer f outer);
@@ -65,11 +68,11 @@ module _ (limit : ℕ) (f : Formula) (names : List Letters) (whole : Formula) (k
   by_blocks (inr (inl r)) = by_node r
   by_blocks (inr (inr r)) = by_limit r
 
-pub prenex_replied : (limit : ℕ) (f : Formula) (names : List Letters) (p : Prenex) (r : Result Reply AllocError) → IsSmall f → IsPrenexOf f names p → Preserves f (stands_for p) → (HasDecidedCore f → Same f (stands_for p))
+pub prenex_replied : (limit : ℕ) (f : Formula) (names : List Letters) (p : Prenex) (r : Result Reply AllocError) → IsSmall f → IsPrenexOf f names p → Preserves f (stands_for p) → HoldAlike f (stands_for p) → (HasDecidedCore f → Same f (stands_for p))
     → IfOk r (RepliesToPrenex limit p) → IfOk r (RepliesToFormula limit f names)
-prenex_replied limit f names p (Err e) small is keeps same h = tt
-prenex_replied limit f names p (Ok reply) small is keeps same h =
-    by_blocks limit f names (stands_for p) keeps same small reply
+prenex_replied limit f names p (Err e) small is keeps alike same h = tt
+prenex_replied limit f names p (Ok reply) small is keeps alike same h =
+    by_blocks limit f names (stands_for p) keeps alike same small reply
     (subst (λ bs. RepliesToBlocks limit bs (matrix f names) (all_names f names) (stands_for p) reply) (ap blocks_of is.blocks)
     (subst (λ m. RepliesToBlocks limit (blocks_of p.blocks.items) m (all_names f names) (stands_for p) reply) is.matrix
     (subst (λ all. RepliesToBlocks limit (blocks_of p.blocks.items) (tree p.matrix) all (stands_for p) reply) is.names h)))

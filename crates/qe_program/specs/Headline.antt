@@ -2,6 +2,7 @@
 use Rattle.std.specs.Prelude.{ℕ, ◌≡◌, List}
 use Rattle.qe_form.specs.Formula.{Formula}
 use Rattle.qe_form.specs.Same.{HasNoQuantifier, Same}
+use Rattle.qe_form.specs.Holds.{Settles}
 use Rattle.qe_form.specs.Preserved.{Preserves, HasDecidedCore, HasOuterQuantifiers}
 use Rattle.qe_read.specs.Names.{Letters}
 use Rattle.qe_read.specs.Input.{IsInput}
@@ -11,12 +12,13 @@ use Rattle.qe_program.specs.Output.{line}
 use Rattle.qe_program.specs.Outcome.{outcome, all_names, EachFits}
 
 -- The text is the line of a formula without quantifiers: the one that elimination gives, and none of its blocks had more nodes than
--- the limit, but where a leaf is True. It is true where the given formula is, and false where that is false. So they mean the same
+-- the limit, but where a leaf is True. It is true exactly where the given formula holds, and false exactly where it does not; true where the given formula is, and false where that is false. So they mean the same
 -- where it is settled what follows the outer quantifiers and negations of the given one, as it is where all quantifiers stand outside.
 pub record IsAnswer (limit : ℕ) (f : Formula) (names : List Letters) (text : List ℕ) : Type 0 where
   pub answer : Formula
   pub written : text ≡ line (formula_text (all_names f names) answer)
   pub no_quantifier : HasNoQuantifier answer
+  pub settles : Settles f answer
   pub keeps : Preserves f answer
   pub same_points : HasDecidedCore f → Same f answer
   pub same_outer : HasOuterQuantifiers f → Same f answer

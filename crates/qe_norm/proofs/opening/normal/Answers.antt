@@ -4,9 +4,10 @@ use Rattle.qe_form.specs.Same.{Same}
 use Rattle.qe_form.specs.Measures.{count}
 use Rattle.qe_form.specs.Plain.{IsPlain}
 use Rattle.qe_form.specs.Preserved.{Preserves, HasDecidedCore}
+use Rattle.qe_form.specs.Holds.{HoldAlike}
 use Rattle.qe_norm.specs.Prenex.{IsWellNumbered, stands_for}
 use Rattle.qe_norm.proofs.Assembled.{too_large, small_enough, of_answer, exact_answer}
-use Rattle.qe_norm.proofs.Wholes.{keeps, same, well_numbered, plain, small}
+use Rattle.qe_norm.proofs.Wholes.{keeps, same, holds, well_numbered, plain, small}
 use Rattle.qe_norm.proofs.opening.normal.Goals as goal
 
 pub returns-then-size-eq-MOST_COUNTED-clause-exact : goal.returns-then-size-eq-MOST_COUNTED-clause-exact
@@ -29,6 +30,13 @@ returns-clause-same c =
     let names = c.args.input.names in
     of_answer (λ p. HasDecidedCore f → Same f (stands_for p)) f names
     (λ p is. same f names c.requires.numbered c.requires.few (small_enough f c.size.result c.size.ensures c.if-size-eq-MOST_COUNTED.false) p is) c.prenex.result c.prenex.ensures
+
+pub returns-clause-holds : goal.returns-clause-holds
+returns-clause-holds c =
+    let f = tree c.args.input.form in
+    let names = c.args.input.names in
+    of_answer (λ p. HoldAlike f (stands_for p)) f names
+    (λ p is. holds f names c.requires.numbered c.requires.few (small_enough f c.size.result c.size.ensures c.if-size-eq-MOST_COUNTED.false) p is) c.prenex.result c.prenex.ensures
 
 pub returns-clause-well_numbered : goal.returns-clause-well_numbered
 returns-clause-well_numbered c =
