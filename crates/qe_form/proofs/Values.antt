@@ -1,9 +1,9 @@
 -- The laws of values at points of numbers, from those of values in a ring.
 use Rattle.std.proofs.Common.{◌≡◌, refl, ap, ap₂, subst, ℕ, zero, suc, ◌≤◌, true, false, cond, eqb, List, [], ◌∷◌, Some, if◌then◌else◌, ℤ}
 use Rattle.qe_ring.specs.Ring.{IsRing}
-use Rattle.qe_tower.specs.Number.{Number, IsNumber, add, mul, neg, whole_number, number_operations, Equal}
+use Rattle.qe_tower.specs.Number.{Number, IsNumber, add, mul, neg, whole_number, number_operations, Equal, ValidNumber}
 use Rattle.qe_tower.specs.Point.{Point, IsPoint, look_up, or_zero, number_at}
-use Rattle.qe_tower.proofs.ValidNumbers.{ValidNumber, valid_operations, ValidEqual, valid_ordered}
+use Rattle.qe_tower.proofs.ValidNumbers.{valid_operations, ValidEqual, valid_ordered}
 use Rattle.qe_tower.proofs.WholeNumbers.{whole_sum, whole_product, whole_negative}
 use Rattle.qe_poly.specs.Monomial.{Monomial}
 use Rattle.qe_poly.specs.Polynomial.{Term, Polynomial, IsPolynomial, sum, negative, product}

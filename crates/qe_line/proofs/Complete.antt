@@ -4,7 +4,7 @@ use Rattle.qe_ring.specs.Ring.{Operations}
 use Rattle.qe_ring.specs.Sign.{Sign, Zero, is}
 use Rattle.qe_ring.proofs.Finite.{is-eq, is-same}
 use Rattle.qe_line.specs.Field.{IsEuclideanField}
-use Rattle.qe_line.specs.Place.{Place, below, at, Eventually}
+use Rattle.qe_line.specs.Place.{Place, below, at, Eventually, LessBySign}
 use Rattle.qe_line.specs.Quadratic.{quadratic}
 use Rattle.qe_line.specs.TestPoint.{Polynomial, Condition, signs_of, signs_at, IsTestPoint, MeetsAll, IsRootWhereZero, IsTestPointByKind}
 use Rattle.qe_line.proofs.Places.{There, here, then, both, some}
@@ -82,17 +82,17 @@ module _ {C : Type 0} {o : Operations C} {s : C → Sign} (F : IsEuclideanField 
   root_is_test_by_kind ks false v r = r
 
   pub complete_by_kind : (ks : List (Condition C))
-      → ((x : C) × MeetsAll o s ks x) ↔ ((p : Place C) × (IsTestPointByKind o s ks p × Eventually o s p (MeetsAll o s ks)))
+      → ((x : C) × MeetsAll o s ks x) ↔ ((p : Place C) × (IsTestPointByKind o s ks p × Eventually (LessBySign o s) p (MeetsAll o s ks)))
   complete_by_kind ks = (forth, back)
     where
       reach : (x : C) → MeetsAll o s ks x → (p : Place C) × (IsTestPointByKind o s ks p × There o s p (MeetsAll o s ks))
       reach x m = reached F (reach_all {K = IsTestPointByKind o s ks} tt ks (root_is_test_by_kind ks) x m)
 
-      forth : ((x : C) × MeetsAll o s ks x) → (p : Place C) × (IsTestPointByKind o s ks p × Eventually o s p (MeetsAll o s ks))
+      forth : ((x : C) × MeetsAll o s ks x) → (p : Place C) × (IsTestPointByKind o s ks p × Eventually (LessBySign o s) p (MeetsAll o s ks))
       forth (x, m) = ((reach x m).0, ((reach x m).1.0, (reach x m).1.1.is))
 
-      back : ((p : Place C) × (IsTestPointByKind o s ks p × Eventually o s p (MeetsAll o s ks))) → (x : C) × MeetsAll o s ks x
+      back : ((p : Place C) × (IsTestPointByKind o s ks p × Eventually (LessBySign o s) p (MeetsAll o s ks))) → (x : C) × MeetsAll o s ks x
       back (p, h) = some F (there p h.1)
         where
-          there : (p : Place C) → Eventually o s p (MeetsAll o s ks) → There o s p (MeetsAll o s ks)
+          there : (p : Place C) → Eventually (LessBySign o s) p (MeetsAll o s ks) → There o s p (MeetsAll o s ks)
           there p e = record { is = e }

@@ -33,7 +33,7 @@ either_sign Plus b e = inl tt
 
 -- P holds at the place: a record, so that P is found from a proof
 pub record There {C : Type 0} (o : Operations C) (s : C → Sign) (p : Place C) (P : C → Type 0) : Type 0 where
-  pub is : Eventually o s p P
+  pub is : Eventually (LessBySign o s) p P
 
 module _ {C : Type 0} {o : Operations C} {s : C → Sign} (F : IsEuclideanField o s) where
   open o use {zero, one, add, mul}
@@ -104,18 +104,18 @@ module _ {C : Type 0} {o : Operations C} {s : C → Sign} (F : IsEuclideanField 
       is_plus z e = subst (λ t. IsPlus t) (sym (ordered.sign-same z (mul (difference o y x) half.0) e ∙ ordered.sign-mul (difference o y x) half.0
           ∙ ap (λ t. s (difference o y x) · t) half.1.1 ∙ ap (λ t. t · Plus) (is-eq (s (difference o y x)) Plus h))) tt
 
-  widen : (p : Place C) (P Q : C → Type 0) → ((u : C) → P u → Q u) → Eventually o s p P → Eventually o s p Q
+  widen : (p : Place C) (P Q : C → Type 0) → ((u : C) → P u → Q u) → Eventually (LessBySign o s) p P → Eventually (LessBySign o s) p Q
   widen below P Q f h = (h.0, λ u l. f u (h.1 u l))
   widen (at v) P Q f h = f v h
   widen (above v) P Q f h = (h.0, (h.1.0, λ u k l. f u (h.1.1 u k l)))
 
-  always : (p : Place C) (P : C → Type 0) → ((u : C) → P u) → Eventually o s p P
+  always : (p : Place C) (P : C → Type 0) → ((u : C) → P u) → Eventually (LessBySign o s) p P
   always below P f = (zero, λ u l. f u)
   always (at v) P f = f v
   always (above v) P f = (add v one, (one_more v, λ u k l. f u))
 
   -- the lesser of two ends
-  meet : (p : Place C) (P Q : C → Type 0) → Eventually o s p P → Eventually o s p Q → Eventually o s p (λ u. P u × Q u)
+  meet : (p : Place C) (P Q : C → Type 0) → Eventually (LessBySign o s) p P → Eventually (LessBySign o s) p Q → Eventually (LessBySign o s) p (λ u. P u × Q u)
   meet below P Q h k = elim (either h.0 k.0) [
     | inl l ↦ (h.0, λ u m. (h.1 u m, k.1 u (less_most u h.0 k.0 m l)))
     | inr l ↦ (k.0, λ u m. (h.1 u (less_most u k.0 h.0 m (weak k.0 h.0 l)), k.1 u m))
@@ -126,7 +126,7 @@ module _ {C : Type 0} {o : Operations C} {s : C → Sign} (F : IsEuclideanField 
     | inr l ↦ (k.0, (k.1.0, λ u n m. (h.1.1 u n (less_most u k.0 h.0 m (weak k.0 h.0 l)), k.1.1 u n m)))
   ]
 
-  witness : (p : Place C) (P : C → Type 0) → Eventually o s p P → (u : C) × P u
+  witness : (p : Place C) (P : C → Type 0) → Eventually (LessBySign o s) p P → (u : C) × P u
   witness below P h = (difference o h.0 one, h.1 (difference o h.0 one) (one_less h.0))
   witness (at v) P h = (v, h)
   witness (above v) P h = (m.0, h.1.1 m.0 m.1.0 m.1.1)

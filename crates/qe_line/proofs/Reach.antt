@@ -137,7 +137,7 @@ module _ {C : Type 0} {o : Operations C} {s : C → Sign} (F : IsEuclideanField 
   pub reach_here : {K : Place C → Type 0} {x : C} {P : C → Type 0} → K below → ((u : C) → P u) → Reach o s K x P
   reach_here k f = record { place = below; is_candidate = k; not_after = tt; holds = λ u m l. f u }
 
-  eventually : (x : C) (P : C → Type 0) (p : Place C) → IsFrom o s p x → ((u : C) → IsFrom o s p u → AtMostBySign o s u x → P u) → Eventually o s p P
+  eventually : (x : C) (P : C → Type 0) (p : Place C) → IsFrom o s p x → ((u : C) → IsFrom o s p u → AtMostBySign o s u x → P u) → Eventually (LessBySign o s) p P
   eventually x P below h f = (x, λ u l. f u tt (weak F u x l))
   eventually x P (at v) h f = f v (itself F v) h
   eventually x P (above v) h f = (x, (h, λ u k l. f u k (weak F u x l)))

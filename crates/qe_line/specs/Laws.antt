@@ -4,7 +4,7 @@ use Rattle.qe_ring.specs.Ring.{Operations}
 use Rattle.qe_ring.specs.Expression.{of_int}
 use Rattle.qe_ring.specs.Sign.{Sign, Zero, IsNotMinus, IsNotZero, pick, ◌·◌}
 use Rattle.qe_ring.specs.Ordered.{EqualBySign, AtMostBySign}
-use Rattle.qe_line.specs.Place.{Place, below, above, Eventually, HoldsJustAbove}
+use Rattle.qe_line.specs.Place.{Place, below, above, Eventually, HoldsJustAbove, LessBySign}
 use Rattle.qe_line.specs.Quadratic.{first_sign, quadratic, slope, plain_part, root_part, norm, IsRootValue, IsRoot, sign_at}
 use Rattle.qe_line.specs.TestPoint.{Polynomial, Condition, signs_of, signs_at, IsTestPoint, MeetsAll, IsTestPointByKind}
 
@@ -57,7 +57,7 @@ module _ {C : Type 0} (o : Operations C) (s : C → Sign) where
 
   -- below some bound a polynomial has the sign that its first coefficient has there which is not zero
   abbrev pub SignFarBelow : Type 0
-  SignFarBelow = (a b c : C) → Eventually o s below (λ u. s (quadratic o a b c u) ≡ sign_at o s below a b c)
+  SignFarBelow = (a b c : C) → Eventually (LessBySign o s) below (λ u. s (quadratic o a b c u) ≡ sign_at o s below a b c)
 
   -- whatever is asked of the signs of finitely many polynomials: it is so at some value exactly where it is so at some test point
   abbrev pub Complete : Type 0
@@ -67,4 +67,4 @@ module _ {C : Type 0} (o : Operations C) (s : C → Sign) where
   -- Where each polynomial has its own condition, a root is a test point only if zero is allowed there, and what is just above it only if not
   abbrev pub CompleteByKind : Type 0
   CompleteByKind = (ks : List (Condition C))
-      → ((x : C) × MeetsAll o s ks x) ↔ ((p : Place C) × (IsTestPointByKind o s ks p × Eventually o s p (MeetsAll o s ks)))
+      → ((x : C) × MeetsAll o s ks x) ↔ ((p : Place C) × (IsTestPointByKind o s ks p × Eventually (LessBySign o s) p (MeetsAll o s ks)))

@@ -17,13 +17,14 @@ pub data Place (C : Type 0) : Type 0 where
   at : C → Place C
   above : C → Place C
 
-module _ {C : Type 0} (o : Operations C) (s : C → Sign) where
-  -- P holds at the place: for all that is less than some bound; for the value; for all that is more than the value and less than some bound
+-- P holds at the place: for all that is less than some bound; for the value; for all that is more than the value and less than some bound
+module _ {C : Type 0} (Less : C → C → Type 0) where
   abbrev pub Eventually : Place C → (C → Type 0) → Type 0
-  Eventually below P = (end : C) × ((u : C) → LessBySign o s u end → P u)
+  Eventually below P = (end : C) × ((u : C) → Less u end → P u)
   Eventually (at v) P = P v
-  Eventually (above v) P = (end : C) × (LessBySign o s v end × ((u : C) → LessBySign o s v u → LessBySign o s u end → P u))
+  Eventually (above v) P = (end : C) × (Less v end × ((u : C) → Less v u → Less u end → P u))
 
+module _ {C : Type 0} (o : Operations C) (s : C → Sign) where
   -- P holds for all that is more than v by less than some distance
   abbrev pub HoldsJustAbove : C → (C → Type 0) → Type 0
   HoldsJustAbove v P = (d : C) × (IsPlus (s d) × ((u : C) → LessBySign o s v u → LessBySign o s u (o.add v d) → P u))

@@ -22,7 +22,8 @@ pub trait Line {
 pub struct Numbers;
 
 impl Line for Numbers {
-    ghost use Rattle.qe_tower.proofs.ValidNumbers.{ValidNumber, valid_operations, valid_sign};
+    ghost use Rattle.qe_tower.proofs.ValidNumbers.{valid_operations, valid_sign};
+    ghost use Rattle.qe_tower.specs.Number.{ValidNumber};
     ghost use Rattle.qe_line.specs.Numbers.{numbers};
 
     ghost carrier = { ValidNumber };

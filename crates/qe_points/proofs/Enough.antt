@@ -3,7 +3,8 @@ use Rattle.std.proofs.Common.{ℕ, suc, ◌≡◌, ◌∙◌, ◌≤◌, ◌<◌
 use Rattle.std.specs.Prelude.{◌&&◌, nat_lt}
 use Rattle.std.proofs.lemmas.Bool.Decides.{nat_tests}
 use Rattle.qe_tower.specs.Point.{Point, IsPoint}
-use Rattle.qe_tower.proofs.ValidNumbers.{ValidNumber, valid_operations, valid_sign}
+use Rattle.qe_tower.proofs.ValidNumbers.{valid_operations, valid_sign}
+use Rattle.qe_tower.specs.Number.{ValidNumber}
 use Rattle.qe_line.specs.Place.{Place, Eventually}
 use Rattle.qe_line.specs.Place as line
 use Rattle.qe_line.specs.Quadratic.{linear, upper, lower}
@@ -21,7 +22,7 @@ use Rattle.qe_form.specs.Truth.{Is}
 use Rattle.qe_form.proofs.TwoSides.{never_both, decided}
 use Rattle.qe_simp.proofs.Shapes.{plain_no_quantifier}
 use Rattle.qe_root.specs.Atoms.{atoms, atoms_of}
-use Rattle.qe_root.specs.Holds.{StandsAt}
+use Rattle.qe_root.specs.Holds.{StandsAt, IsLess}
 use Rattle.qe_points.specs.declared.candidate.Which.{Which}
 use Rattle.qe_points.specs.declared.candidate.Which.TheVariants.{Linear, Upper, Lower}
 use Rattle.qe_points.specs.declared.candidate.Candidate.{Candidate}
@@ -183,7 +184,7 @@ module _ (x : ℕ) (cs : List Candidate) (f : Formula) (p : Point) where
   IsPlaceOfOne k = (c : Candidate) × IsIn c cs × Is (guard x c) true p × StandsAt (point_of x c) p k
 
   -- what is true at a place is so for some number
-  some_number : (valid : IsPoint p) (k : Place ValidNumber) → Eventually valid_operations valid_sign k (λ v. Is f true ((x, v.0) ∷ p)) → Is (Ex x f) true p
+  some_number : (valid : IsPoint p) (k : Place ValidNumber) → Eventually IsLess k (λ v. Is f true ((x, v.0) ∷ p)) → Is (Ex x f) true p
   some_number valid k h = let w = some numbers there in (w.0.0, w.0.1, w.1)
     where
       there : There valid_operations valid_sign k (λ v. Is f true ((x, v.0) ∷ p))

@@ -1,9 +1,9 @@
 -- Formulas with And and Or over polynomials of degree two at most in one variable, as that variable goes along the line of the numbers.
 use Rattle.std.proofs.Common.{ℕ, ◌≡◌, ◌∙◌, ◌≤◌, inl, inr, refl, sym, ap, subst, Bool, true, false, T, ◌∷◌}
 use Rattle.qe_ring.specs.Sign.{Sign}
-use Rattle.qe_tower.specs.Number.{sign_of}
+use Rattle.qe_tower.specs.Number.{sign_of, ValidNumber}
 use Rattle.qe_tower.specs.Point.{Point, IsPoint}
-use Rattle.qe_tower.proofs.ValidNumbers.{ValidNumber, valid_operations, valid_sign, valid_ordered}
+use Rattle.qe_tower.proofs.ValidNumbers.{valid_operations, valid_sign, valid_ordered}
 use Rattle.qe_line.specs.Place.{Place, below}
 use Rattle.qe_line.specs.Quadratic.{quadratic, IsRoot}
 use Rattle.qe_line.specs.Numbers.{numbers}

@@ -5,9 +5,9 @@ use Rattle.qe_ring.specs.Ring.{IsRing}
 use Rattle.qe_ring.specs.Expression.{of_int, var, unit, ⊖◌}
 use Rattle.qe_ring.specs.Sign.{Sign, Minus, Zero, Plus, IsNotMinus, IsNotZero, ◌·◌}
 use Rattle.qe_ring.proofs.Hypotheses.{fact}
-use Rattle.qe_tower.specs.Number.{whole_number, sign_of}
+use Rattle.qe_tower.specs.Number.{whole_number, sign_of, ValidNumber}
 use Rattle.qe_tower.specs.Point.{Point, IsPoint}
-use Rattle.qe_tower.proofs.ValidNumbers.{ValidNumber, valid_operations, valid_sign, ValidEqual, valid_ordered}
+use Rattle.qe_tower.proofs.ValidNumbers.{valid_operations, valid_sign, ValidEqual, valid_ordered}
 use Rattle.qe_line.specs.Quadratic.{Kind, linear, upper, lower, IsRootValue, IsRootOfKind}
 use Rattle.qe_line.specs.Quadratic as line
 use Rattle.qe_line.specs.Numbers.{numbers}

@@ -1,7 +1,7 @@
 -- The guard of a candidate says that its point is there, and in both stand only variables of its polynomial other than x.
 use Rattle.std.proofs.Common.{ℕ, ◌≡◌, ◌≢◌, ◌≤◌, inl, inr, sym, subst, Bool, true, false, cond, eqb, pos, negsuc, Some, None, Option, Result, Ok, Err, IsErr, IsErrAnd, IfSome, arith}
 use Rattle.qe_tower.specs.Point as assignment
-use Rattle.qe_tower.proofs.ValidNumbers.{ValidNumber}
+use Rattle.qe_tower.specs.Number.{ValidNumber}
 use Rattle.qe_line.specs.Place.{Place, below, at, above}
 use Rattle.qe_poly.specs.Polynomial.{Polynomial, IsPolynomial, constant, negative, product}
 use Rattle.qe_poly.specs.Coefficients.{degree_in, coefficient_in}

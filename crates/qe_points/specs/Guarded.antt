@@ -1,7 +1,7 @@
 -- What `guarded` answers, and what it tells of the guard and the point.
 use Rattle.std.specs.Prelude.{ℕ, ◌≡◌, ◌≢◌, ◌≤◌, ◌<◌, ◌⊎◌, Bool, true, false, Option, Some, None, Result, Ok, Err}
 use Rattle.qe_tower.specs.Point as assignment
-use Rattle.qe_tower.proofs.ValidNumbers.{ValidNumber}
+use Rattle.qe_tower.specs.Number.{ValidNumber}
 use Rattle.qe_line.specs.Place.{Place}
 use Rattle.qe_poly.specs.Polynomial.{Polynomial}
 use Rattle.qe_poly.specs.Coefficients.{degree_in}

@@ -5,9 +5,9 @@ use Rattle.qe_ring.specs.Sign.{Sign}
 use Rattle.qe_ring.specs.Ordered.{EqualBySign}
 use Rattle.qe_line.specs.Field.{IsEuclideanField}
 use Rattle.qe_ring.specs.Expression.{var, of_int, ◌⊕◌, ◌⊗◌}
-use Rattle.qe_tower.specs.Number.{Number, whole_number}
+use Rattle.qe_tower.specs.Number.{Number, whole_number, ValidNumber}
 use Rattle.qe_tower.specs.Point.{Point, IsPoint}
-use Rattle.qe_tower.proofs.ValidNumbers.{ValidNumber, valid_operations, valid_sign, ValidEqual, valid_ordered}
+use Rattle.qe_tower.proofs.ValidNumbers.{valid_operations, valid_sign, ValidEqual, valid_ordered}
 use Rattle.qe_line.specs.Quadratic.{IsRootValue, quadratic}
 use Rattle.qe_line.specs.Quadratic as line
 use Rattle.qe_line.specs.Numbers.{numbers}

@@ -5,9 +5,9 @@ use Rattle.qe_ring.specs.Expression.{var, nought, ◌⊕◌, ⊖◌, ◌⊗◌, 
 use Rattle.qe_ring.specs.Sign.{Sign, IsNotMinus, opposite, ◌·◌, adds, pick}
 use Rattle.qe_ring.proofs.Signs.{same_sign, law}
 use Rattle.qe_ring.proofs.Roots.{sign_at_root, root_has_sign}
-use Rattle.qe_tower.specs.Number.{Number, sign_of, add, mul}
+use Rattle.qe_tower.specs.Number.{Number, sign_of, add, mul, ValidNumber}
 use Rattle.qe_tower.specs.Point.{Point, IsPoint}
-use Rattle.qe_tower.proofs.ValidNumbers.{ValidNumber, valid_operations, valid_sign, ValidEqual, valid_ordered}
+use Rattle.qe_tower.proofs.ValidNumbers.{valid_operations, valid_sign, ValidEqual, valid_ordered}
 use Rattle.qe_line.proofs.Meaning.{means}
 use Rattle.qe_poly.specs.Polynomial.{Polynomial, negative, product}
 use Rattle.qe_form.specs.declared.signs.Signs.{Signs}

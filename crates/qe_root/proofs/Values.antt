@@ -2,9 +2,9 @@
 use Rattle.std.proofs.Common.{refl, pos, []}
 use Rattle.qe_ring.specs.Ring.{Operations}
 use Rattle.qe_ring.specs.Expression.{of_int}
-use Rattle.qe_tower.specs.Number.{whole_number}
+use Rattle.qe_tower.specs.Number.{whole_number, ValidNumber}
 use Rattle.qe_tower.specs.Point.{Point, IsPoint}
-use Rattle.qe_tower.proofs.ValidNumbers.{ValidNumber, valid_operations, ValidEqual}
+use Rattle.qe_tower.proofs.ValidNumbers.{valid_operations, ValidEqual}
 use Rattle.qe_line.proofs.Meaning.{Means}
 use Rattle.qe_poly.specs.Polynomial.{Polynomial, constant, negative, sum, product}
 use Rattle.qe_form.specs.Value.{value}

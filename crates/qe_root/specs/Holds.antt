@@ -1,10 +1,10 @@
 -- When a formula holds at a point at which a variable is eliminated: at the value of a root, just above it, or below some bound.
 use Rattle.std.specs.Prelude.{ℕ, Bool, true, ◌≡◌, Option, Some, ◌↔◌, ◌∷◌}
+use Rattle.qe_ring.specs.Ring.{difference}
 use Rattle.qe_ring.specs.Sign.{Zero}
-use Rattle.qe_tower.specs.Number.{sign_of}
+use Rattle.qe_tower.specs.Number.{sign_of, number_operations, ValidNumber}
 use Rattle.qe_tower.specs.Point.{Point, IsPoint}
-use Rattle.qe_tower.proofs.ValidNumbers.{ValidNumber, valid_operations, valid_sign}
-use Rattle.qe_line.specs.Place.{Place, Eventually}
+use Rattle.qe_line.specs.Place.{Place, IsPlus, Eventually}
 use Rattle.qe_line.specs.Place as line
 use Rattle.qe_poly.specs.Polynomial.{Polynomial}
 use Rattle.qe_form.specs.Formula.{Formula}
@@ -21,9 +21,13 @@ StandsAt (point.RootPlus k) at (line.above v) = IsValue k at v.0
 StandsAt point.MinusInf at line.below = Unit {0}
 StandsAt point at place = ⊥
 
+-- less: the sign of the second less the first is plus
+abbrev pub IsLess : ValidNumber → ValidNumber → Type 0
+IsLess a b = IsPlus (sign_of (difference number_operations b.0 a.0))
+
 -- the formula is true, or it is false, with x given the numbers at the place
 abbrev pub HoldsThere : ℕ → Place ValidNumber → Formula → Bool → Point → Type 0
-HoldsThere x place f b at = Eventually valid_operations valid_sign place (λ u. Is f b ((x, u.0) ∷ at))
+HoldsThere x place f b at = Eventually IsLess place (λ u. Is f b ((x, u.0) ∷ at))
 
 -- the formula is true with x given the numbers at the test point
 abbrev pub HoldsAt : ℕ → code.Point → Formula → Point → Type 0

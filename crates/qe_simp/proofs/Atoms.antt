@@ -4,9 +4,9 @@ use Rattle.std.proofs.Math.IntN.{+ℤ_idr}
 use Rattle.std.proofs.lemmas.Bool.Decides.{Decides-int_eq, nat_tests}
 use Rattle.std.specs.Ordering.{int_eq}
 use Rattle.qe_ring.specs.Sign.{Sign, Minus, Zero, Plus, int_sign, opposite, ◌·◌}
-use Rattle.qe_tower.specs.Number.{sign_of, whole_number}
+use Rattle.qe_tower.specs.Number.{sign_of, whole_number, ValidNumber}
 use Rattle.qe_tower.specs.Point.{Point, IsPoint}
-use Rattle.qe_tower.proofs.ValidNumbers.{ValidNumber, valid_operations, valid_ordered}
+use Rattle.qe_tower.proofs.ValidNumbers.{valid_operations, valid_ordered}
 use Rattle.qe_poly.specs.Polynomial.{Polynomial, constant, coefficient}
 use Rattle.qe_poly.specs.Primitive.{primitive, leads_negative, negated_if, IsMultiple}
 use Rattle.qe_poly.specs.Equal.{poly_eq, poly_eq_equiv, poly_tells}

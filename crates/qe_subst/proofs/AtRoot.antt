@@ -1,8 +1,7 @@
 -- What is substituted at a root reads the sign of the polynomial there.
 use Rattle.std.proofs.Common.{ℕ, ◌≡◌, ◌≤◌, refl, sym, ap, subst, true, false, cond, Option, None, Some, ◌∷◌}
-use Rattle.qe_tower.specs.Number.{sign_of}
+use Rattle.qe_tower.specs.Number.{sign_of, ValidNumber}
 use Rattle.qe_tower.specs.Point.{Point, IsPoint}
-use Rattle.qe_tower.proofs.ValidNumbers.{ValidNumber}
 use Rattle.qe_line.specs.Place as line
 use Rattle.qe_poly.specs.Polynomial.{Polynomial, IsPolynomial}
 use Rattle.qe_poly.specs.Coefficients.{degree_in}

@@ -4,9 +4,9 @@ use Rattle.qe_ring.specs.Expression.{var, nought, unit, constant, of_int, ◌⊕
 use Rattle.qe_ring.specs.Ring.{IsRing}
 use Rattle.qe_ring.specs.Sign.{Sign, Zero}
 use Rattle.qe_ring.proofs.Hypotheses.{fact}
-use Rattle.qe_tower.specs.Number.{sign_of, whole_number, Equal}
+use Rattle.qe_tower.specs.Number.{sign_of, whole_number, Equal, ValidNumber}
 use Rattle.qe_tower.specs.Point.{Point, IsPoint}
-use Rattle.qe_tower.proofs.ValidNumbers.{ValidNumber, ValidEqual, valid_operations, valid_sign, valid_ordered}
+use Rattle.qe_tower.proofs.ValidNumbers.{ValidEqual, valid_operations, valid_sign, valid_ordered}
 use Rattle.qe_line.specs.Place as line
 use Rattle.qe_line.specs.Quadratic.{first_sign, slope, sign_at}
 use Rattle.qe_line.specs.Numbers.{numbers}

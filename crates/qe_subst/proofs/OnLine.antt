@@ -3,9 +3,9 @@ use Rattle.std.proofs.Common.{ℕ, ◌≡◌, ◌∙◌, ◌≤◌, ◌<◌, ref
 use Rattle.qe_ring.specs.Expression.{nought, ◌⊗◌}
 use Rattle.qe_ring.specs.Sign.{Sign, Zero}
 use Rattle.qe_ring.proofs.Hypotheses.{fact}
-use Rattle.qe_tower.specs.Number.{sign_of}
+use Rattle.qe_tower.specs.Number.{sign_of, ValidNumber}
 use Rattle.qe_tower.specs.Point.{Point, IsPoint}
-use Rattle.qe_tower.proofs.ValidNumbers.{ValidNumber, valid_operations, valid_sign, valid_ordered}
+use Rattle.qe_tower.proofs.ValidNumbers.{valid_operations, valid_sign, valid_ordered}
 use Rattle.qe_line.specs.Place.{Place}
 use Rattle.qe_line.specs.Quadratic.{quadratic, sign_at}
 use Rattle.qe_line.specs.Numbers.{numbers}

@@ -3,9 +3,8 @@ use Rattle.std.proofs.Common.{ℕ, ◌≡◌, ◌∙◌, ◌≤◌, ◌<◌, ◌
 use Rattle.std.proofs.lemmas.Bool.{eqb-true}
 use Rattle.std.proofs.lemmas.Bool.Decides.{nat_tests}
 use Rattle.qe_ring.specs.Sign.{Sign}
-use Rattle.qe_tower.specs.Number.{sign_of}
+use Rattle.qe_tower.specs.Number.{sign_of, ValidNumber}
 use Rattle.qe_tower.specs.Point.{Point, IsPoint}
-use Rattle.qe_tower.proofs.ValidNumbers.{ValidNumber}
 use Rattle.qe_line.specs.Place.{Place}
 use Rattle.qe_line.specs.Place as line
 use Rattle.qe_line.specs.Numbers.{numbers}

@@ -8,17 +8,14 @@ use Rattle.qe_ring.proofs.Hypotheses.{fact, pull}
 use Rattle.qe_ring.proofs.Equal.{by_ring}
 use Rattle.qe_tower.specs.Element.{Element, Tower, over, operations}
 use Rattle.qe_tower.specs.Sign.{sign, IsTower, EqualOver}
-use Rattle.qe_tower.specs.Number.{Number, IsNumber, add, mul, neg, sign_of, whole_number, Equal}
+use Rattle.qe_tower.specs.Number.{Number, IsNumber, ValidNumber, add, mul, neg, sign_of, whole_number, Equal}
 use Rattle.qe_tower.specs.Laws.{number, InverseOf, RootOf}
 use Rattle.qe_tower.proofs.Towers.{Alike, ordered}
 use Rattle.qe_tower.proofs.Field.{root_squared, root_sign, inverse_over}
 use Rattle.qe_tower.proofs.Joined.{ring_of, solve_over, equal_signs_over, raised, top_root, raised_map, joined}
 use Rattle.qe_tower.proofs.Readings.{Reads, reads-sign, reads-add, reads-mul, reads-neg, reads-zero, reads-one, reads-equal, equal-reads, reads-self, Common, common}
 
--- a number with the proof that it is one
-abbrev pub ValidNumber : Type 0
-ValidNumber = (x : Number) × IsNumber x
-
+-- sum, negative and product, with the proofs that they are numbers
 abbrev pub valid_operations : Operations ValidNumber
 valid_operations = record {
   zero = (whole_number (pos 0), tt);

@@ -7,9 +7,9 @@ use Rattle.qe_ring.specs.Expression.{Expression, var, nought, unit, ◌⊕◌, �
 use Rattle.qe_ring.proofs.Signs.{signs, same_sign}
 use Rattle.qe_ring.proofs.Ints.{int_ordered}
 use Rattle.qe_tower.specs.Fraction.{whole, fraction_operations, fraction_sign}
-use Rattle.qe_tower.specs.Number.{add, mul, neg, whole_number, Equal}
+use Rattle.qe_tower.specs.Number.{add, mul, neg, whole_number, Equal, ValidNumber}
 use Rattle.qe_tower.specs.Map.{Keeps}
-use Rattle.qe_tower.proofs.ValidNumbers.{ValidNumber, valid_operations, ValidEqual, valid_ordered}
+use Rattle.qe_tower.proofs.ValidNumbers.{valid_operations, ValidEqual, valid_ordered}
 
 zeros : (point : List ℤ) (e : Expression) → normal (e ⊝ nought) ≡ [] → signs int_operations int_sign point e ≡ Zero
 zeros point e h = same_sign int_operations int_sign (λ a b. a ≡ b) int_ordered point e nought h

@@ -41,6 +41,10 @@ pub record Number : Type 0 where
 abbrev pub IsNumber : Number → Type 0
 IsNumber x = IsTower x.tower
 
+-- a number with the proof that it is one
+abbrev pub ValidNumber : Type 0
+ValidNumber = (x : Number) × IsNumber x
+
 -- the sum, over the joined tower: the first element is lifted, the second is carried
 abbrev pub add : Number → Number → Number
 add x y = record {
