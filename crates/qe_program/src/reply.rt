@@ -1,6 +1,6 @@
 //! The text for an input, made whole before any of it is written.
 
-ghost use Rattle.std.specs.Prelude.{◌≡◌, ◌≤◌, length, IfOk};
+ghost use Rattle.std.specs.Prelude.{◌≡◌, ◌<◌, ◌≤◌, ◌^◌, length, IfOk};
 ghost use Rattle.qe_form.specs.Tree.{tree};
 ghost use Rattle.qe_form.specs.Measures.{count};
 ghost use Rattle.qe_form.specs.Plain.{IsPlain};
@@ -23,9 +23,6 @@ use qe_norm::{NormStop, Prenex, normal};
 use qe_print::form_text;
 use qe_read::{Input, ReadFault, read};
 use std::alloc::Global;
-
-/// More names than a text of the length that is read can have.
-const MANY_NAMES: u32 = 1 << 31;
 
 /// A status, and the text that is written for it.
 #[derive(Drop)]
@@ -161,12 +158,10 @@ fn reply_to_prenex(alloc: Global, prenex: &Prenex, limit: u32) -> Result<Reply, 
 /// The reply to a formula with its names.
 fn reply_to_input(alloc: Global, input: Input, limit: u32) -> Result<Reply, OutOfMemory>
     requires numbered { IsWellNumbered (tree input.form) input.names }
+    requires few { length input.names < 2 ^ 31 }
     requires some { 1 ≤ limit }
     ensures { IfOk result (RepliesToFormula limit (tree input.form) input.names) }
 {
-    if input.names.len() >= MANY_NAMES {
-        return Err(OutOfMemory);
-    }
     match normal(alloc, input) {
         Ok(prenex) => reply_to_prenex(alloc, &prenex, limit),
         Err(NormStop::TooLarge(_)) => prenex_too_large(alloc),

@@ -37,7 +37,7 @@ module _ (bytes : List ℕ) (tokens : List Located) (of : FormulaTree) (are : Ar
   pub bound_are_text : All (IsTextIn bytes) (bound_names of)
   bound_are_text = bound_each (IsTextIn bytes) of each
 
-  pub names_are_few : length bytes ≤ 1048576 → length (free_names bytes [] of) + length (bound_names of) < 2 ^ 32
+  pub names_are_few : length bytes ≤ 1048576 → length (free_names bytes [] of) + length (bound_names of) < 2 ^ 31
   names_are_few h = omega (arith, few_names (IsTextIn bytes) bytes of, ap length the_names, (words_of bytes tokens are).1)
 
 same_letters : (bytes : List ℕ) (names : List Name) (v w : List Letters) → AreLettersOf bytes names v → AreLettersOf bytes names w → v ≡ w

@@ -58,7 +58,8 @@ fn read_tree(alloc: Global, bytes: &[u8], formula: &Formula) -> Result<Input, Re
     requires few { length (free_names bytes.now [] (formula_of formula.now)) + length (bound_names (formula_of formula.now)) < 2 ^ 32 }
     requires free { All (λ x. IsUtf8 (letters_of bytes.now x)) (free_names bytes.now [] (formula_of formula.now)) }
     requires bound { All (λ x. IsUtf8 (letters_of bytes.now x)) (bound_names (formula_of formula.now)) }
-    ensures { AnswersTree bytes.now (formula_of formula.now) result }
+    ensures answers { AnswersTree bytes.now (formula_of formula.now) result }
+    ensures few { IfOk result (λ input. length input.names ≤ length (free_names bytes.now [] (formula_of formula.now)) + length (bound_names (formula_of formula.now))) }
 {
     let mut occurrences = Vec::new(alloc);
     push_free(&mut occurrences, bytes, &mut Vec::new(alloc), formula)?;
@@ -80,6 +81,7 @@ pub fn read(alloc: Global, bytes: &[u8]) -> Result<Input, ReadFault>
     requires { length bytes.now ≤ 1048576 }
     ensures answers { Answers bytes.now result }
     ensures well_numbered { IfOk result (λ input. IsWellNumbered (tree input.form) input.names) }
+    ensures few { IfOk result (λ input. length input.names < 2 ^ 31) }
     ensures only { (f : FormTree) (names : List Letters) → IsInput bytes.now f names → IsReadAs f names result }
 {
     let tokens = tokens(alloc, bytes)?;
