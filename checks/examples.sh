@@ -1,5 +1,5 @@
 #!/usr/bin/env bash
-# Runs each example of the documents over the built program. An example is an indented line `$ echo 'INPUT' | ./qe WORDS`, then the
+# Runs each example of the documents, and each row of checks/rows.md, over the built program. An example is an indented line `$ echo 'INPUT' | ./qe WORDS`, then the
 # indented lines that are written, and then, where the exit status is not 0, `[exit status N]`. Prints a line for each example that
 # fails, and 'N passed, M failed' last.
 set -u
@@ -32,7 +32,7 @@ try() {
   fi
 }
 
-for file in README.md docs/LANGUAGE.md docs/METHOD.md; do
+for file in README.md docs/LANGUAGE.md docs/METHOD.md checks/rows.md; do
   command=
   expected=
   while IFS= read -r text; do
