@@ -1,16 +1,21 @@
-//! Polynomials and roots by their coefficients. The variables are `a`, `b`, `c` and `x`, numbered from 0.
+//! Formulas by their text, polynomials and roots by their coefficients. The variables are `a`, `b`, `c` and `x`, numbered from 0.
+
+ghost use Rattle.std.specs.Prelude.{IfOk};
+ghost use Rattle.qe_form.specs.Numbered.{IsWellNumbered};
+ghost use Rattle.qe_form.specs.Tree.{tree};
 
 use qe_coef::Coef;
-use qe_form::Signs;
+use qe_form::{Input, OutOfMemory, Signs};
 use qe_poly::{Poly, PolyStop, Var};
+use qe_read::read;
 use qe_root::RootPoint;
 use std::alloc::Global;
 
 /// The greatest coefficient.
 pub const MOST: i128 = i128::MAX;
 
-/// The greatest number whose square is a coefficient.
-pub const ROOT: i128 = 13043817825332782212;
+/// The most bytes that are read.
+const MOST_BYTES: usize = 1_048_576;
 
 /// The variable that is eliminated.
 pub const X: Var = Var(3);
@@ -70,11 +75,6 @@ pub fn linear(alloc: Global, numbers: Linear) -> Result<Poly, PolyStop> {
     with_term(alloc, &b, numbers[0], 0)
 }
 
-/// The coefficients of a number.
-pub fn number(value: i128) -> Linear {
-    [0, 0, 0, value]
-}
-
 /// `value*x` with that sum of `a`, `b`, `c` and a number.
 fn next(alloc: Global, value: &Poly, numbers: Linear) -> Result<Poly, PolyStop> {
     let product = value.mul(alloc, &Poly::power(alloc, X, 1)?)?;
@@ -103,4 +103,17 @@ pub fn root(alloc: Global, parts: [Linear; 4]) -> Result<RootPoint, PolyStop> {
 /// The signs of these bits.
 pub fn signs_of(bits: u8) -> Signs {
     Signs::of(bits % 2 == 1, bits / 2 % 2 == 1, bits / 4 % 2 == 1)
+}
+
+/// The formula of a text without a fault, with its names.
+pub fn read_input(alloc: Global, text: &str) -> Result<Input, OutOfMemory>
+    ensures { IfOk result (λ input. IsWellNumbered (tree input.form) input.names) }
+{
+    if text.len() > MOST_BYTES {
+        return Err(OutOfMemory);
+    }
+    match read(alloc, text.as_bytes()) {
+        Ok(input) => Ok(input),
+        Err(_) => Err(OutOfMemory),
+    }
 }

@@ -7,19 +7,15 @@ mod built;
 #[cfg(test)]
 mod formulas;
 #[cfg(test)]
-mod names;
-#[cfg(test)]
 mod nodes;
 #[cfg(test)]
 mod points;
 #[cfg(test)]
 mod polynomials;
 #[cfg(test)]
+mod prenex;
+#[cfg(test)]
 mod roots;
-#[cfg(test)]
-mod signs;
-#[cfg(test)]
-mod simplifier;
 #[cfg(test)]
 mod spelled;
 #[cfg(test)]

@@ -7,12 +7,12 @@ ghost use Rattle.qe_form.specs.Plain.{IsPlainAndProper};
 ghost use Rattle.qe_form.specs.Signs.{IsProper};
 ghost use Rattle.qe_form.specs.Tree.{tree, trees};
 
-use crate::built::{AT_MOST, EQUAL, LESS, MOST, NOT_EQUAL, coef};
-use qe_coef::{Coef, Op, Wide};
+use crate::built::{AT_MOST, EQUAL, LESS, NOT_EQUAL, coef};
+use qe_coef::Coef;
 use qe_form::{Atom, Forms, Signs};
 use qe_node::{
-    Expander, Form, Made, Maker, Never, Next, Node, NodeStop, OutOfMemory, Piece, PolyLimit,
-    Sequence, Stage, Stop, Var, expand, root, successors,
+    Expander, Form, Made, Maker, Never, Next, Node, OutOfMemory, Piece, Sequence, Stop, Var, root,
+    successors,
 };
 use qe_poly::{Poly, PolyStop};
 use std::alloc::Global;
@@ -43,12 +43,6 @@ const BETWEEN: Given = Given::Both(
 
 /// `x = 0 or x = a` with `a` and `x` as the variables 0 and 2.
 const ONE_OF_TWO: Given = Given::Either((&[(1, &[2])], EQUAL), (&[(1, &[2]), (-1, &[0])], EQUAL));
-
-/// `x^3 = 0` with `x` as the variable 0.
-const CUBIC: Given = Given::One((&[(1, &[0, 0, 0])], EQUAL));
-
-/// `M*x^2 + M*x + 1 = 0` with `x` as the variable 0.
-const TOO_GREAT: Given = Given::One((&[(MOST, &[0, 0]), (MOST, &[0]), (1, &[])], EQUAL));
 
 fn product(alloc: Global, number: i128, vars: &[u32]) -> Result<Poly, PolyStop> {
     let mut product = Poly::constant(alloc, coef(number))?;
@@ -202,44 +196,18 @@ const OF_BETWEEN: Wants = &[&[(&[(1, &[0]), (-1, &[1])], LESS)]];
 /// True ends the list.
 const OF_ONE_OF_TWO: Wants = &[&[]];
 
+// The variable, the formula and its successors.
+const ROWS: &[(u32, Given, Wants)] = &[
+    (3, GENERAL, OF_GENERAL),
+    (2, BETWEEN, OF_BETWEEN),
+    (2, ONE_OF_TWO, OF_ONE_OF_TWO),
+];
+
 #[test]
 fn gives_successors(rt: HostRuntime) {
-    let general = gives(rt.alloc(), 3, GENERAL, OF_GENERAL);
-    assert!(rt; matches!(general, Ok(true)));
-    let between = gives(rt.alloc(), 2, BETWEEN, OF_BETWEEN);
-    assert!(rt; matches!(between, Ok(true)));
-    let one_of_two = gives(rt.alloc(), 2, ONE_OF_TWO, OF_ONE_OF_TWO);
-    assert!(rt; matches!(one_of_two, Ok(true)));
-}
-
-fn fails_with(alloc: Global, given: Given, want: NodeStop) -> Result<bool, PolyStop> {
-    let node = node_of(alloc, 0, given)?;
-    match successors(alloc, &node) {
-        Made::Failed(stop) => Ok(stop == want),
-        _ => Ok(false),
+    for (x, given, wants) in ROWS {
+        assert!(rt; matches!(gives(rt.alloc(), *x, *given, wants), Ok(true)));
     }
-}
-
-/// At candidate 1 the guard of atom 0 has `M*M`.
-fn limit_of_the_square() -> NodeStop {
-    NodeStop::Limit {
-        point: 1,
-        atom: 0,
-        stage: Stage::Guard,
-        limit: PolyLimit::Coefficient(Wide {
-            op: Op::Mul,
-            left: coef(MOST),
-            right: coef(MOST),
-        }),
-    }
-}
-
-#[test]
-fn fails(rt: HostRuntime) {
-    let high = fails_with(rt.alloc(), CUBIC, NodeStop::DegreeExcess);
-    assert!(rt; matches!(high, Ok(true)));
-    let great = fails_with(rt.alloc(), TOO_GREAT, limit_of_the_square());
-    assert!(rt; matches!(great, Ok(true)));
 }
 
 fn hash_of<N: Hash>(piece: &N) -> u64 {
@@ -263,37 +231,13 @@ fn is_inner(alloc: Global, x: u32, given: Given) -> Result<bool, PolyStop> {
     Ok(has_it && !node.is_leaf() && is_copied(alloc, &node, 1))
 }
 
-/// Whether the node is a leaf that is not true.
-fn is_other_leaf(alloc: Global, x: u32, given: Given) -> Result<bool, PolyStop> {
-    let node = node_of(alloc, x, given)?;
-    Ok(node.is_leaf() && !node.is_true())
-}
-
 #[test]
-fn keeps_the_variables_that_occur(rt: HostRuntime) {
-    let inner = is_inner(rt.alloc(), 3, GENERAL);
-    assert!(rt; matches!(inner, Ok(true)));
-    let leaf = is_other_leaf(rt.alloc(), 4, GENERAL);
-    assert!(rt; matches!(leaf, Ok(true)));
+fn copies_a_node(rt: HostRuntime) {
+    assert!(rt; matches!(is_inner(rt.alloc(), 3, GENERAL), Ok(true)));
 }
 
-#[derive(Drop)]
-struct AtOnce;
-
-impl Stop for AtOnce {
-    type Basis = ();
-
-    ghost told = { λ _. true };
-
-    ghost basis = { λ _. tt };
-
-    fn stopped(&mut self) -> bool {
-        true
-    }
-}
-
-/// Whether the stop is told first, where the piece is no leaf.
-fn is_stopped<N: Piece, M: Maker<N>, T: Stop>(
+/// Whether the piece is no leaf and is expanded, through the bounds.
+fn is_expanded<N: Piece, M: Maker<N>, T: Stop>(
     alloc: Global,
     maker: &M,
     piece: &N,
@@ -302,21 +246,18 @@ fn is_stopped<N: Piece, M: Maker<N>, T: Stop>(
     if piece.is_leaf() {
         return false;
     }
-    match maker.expand(alloc, piece, stop) {
-        Made::Stopped => true,
+    match &maker.expand(alloc, piece, stop) {
+        Made::Successors(_) => true,
         _ => false,
     }
 }
 
-fn is_node_stopped<T: Stop>(alloc: Global, stop: &mut T) -> Result<bool, PolyStop> {
+fn is_node_expanded(alloc: Global) -> Result<bool, PolyStop> {
     let node = node_of(alloc, 2, ONE_OF_TWO)?;
-    Ok(is_stopped(alloc, &Expander, &node, stop))
+    Ok(is_expanded(alloc, &Expander, &node, &mut Never))
 }
 
 #[test]
-fn stops_when_it_is_told(rt: HostRuntime) {
-    let told = is_node_stopped(rt.alloc(), &mut AtOnce);
-    assert!(rt; matches!(told, Ok(true)));
-    let free = is_node_stopped(rt.alloc(), &mut Never);
-    assert!(rt; matches!(free, Ok(false)));
+fn expands_through_the_bounds(rt: HostRuntime) {
+    assert!(rt; matches!(is_node_expanded(rt.alloc()), Ok(true)));
 }

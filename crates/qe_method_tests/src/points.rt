@@ -1,51 +1,16 @@
-//! Choices, candidates, guards and points, worked out by hand. The variables are `a`, `b`, `c` and `x`, numbered from 0.
+//! Candidates, guards and points, worked out by hand. The variables are `a`, `b`, `c` and `x`, numbered from 0.
 
-use crate::built::{
-    A, AT_LEAST, AT_MOST, B, C, EQUAL, LESS, Linear, MORE, MOST, NOT_EQUAL, ONE, ROOT, X, ZERO,
-    coef, number, quadratic, signs_of,
-};
+use crate::built::{A, B, C, Linear, ONE, X, ZERO, quadratic, read_input};
 use crate::spelled::{push_form, push_poly};
-use qe_coef::{Op, Wide};
-use qe_form::{Atom, Forms, Sequence};
 use qe_points::{
-    Candidate, Form, GuardedPoint, OutOfMemory, Point, Poly, PolyLimit, RootPoint, Stage,
-    SubstStop, Var, Which, candidates, choose, guarded,
+    Candidate, Form, GuardedPoint, OutOfMemory, Point, Poly, RootPoint, SubstStop, Which,
+    candidates, guarded,
 };
-use qe_poly::PolyStop;
 use std::alloc::Global;
 use std::fmt::Write;
 
 /// A polynomial in `x` by its coefficients of `x^2`, `x` and 1, each `numbers[0]*a + numbers[1]*b + numbers[2]*c + numbers[3]`.
 type Numbers = [Linear; 3];
-
-/// The atom on the polynomial.
-fn atom(alloc: Global, numbers: Numbers, bits: u8) -> Result<Form, PolyStop> {
-    let poly = quadratic(alloc, numbers)?;
-    let signs = signs_of(bits);
-    Ok(Form::Atom(Atom { poly, signs }))
-}
-
-fn add(parts: &mut Forms, form: Form) -> Result<(), PolyStop> {
-    parts.push(form)?;
-    Ok(())
-}
-
-fn conjunction(alloc: Global, atoms: &[(Numbers, u8)]) -> Result<Form, PolyStop> {
-    let mut both = Sequence::new(alloc);
-    for (numbers, bits) in atoms {
-        add(&mut both, atom(alloc, *numbers, *bits)?)?;
-    }
-    Ok(Form::And(both))
-}
-
-/// The `Or` of the `And`s of atoms.
-fn formula(alloc: Global, parts: &[&[(Numbers, u8)]]) -> Result<Form, PolyStop> {
-    let mut either = Sequence::new(alloc);
-    for part in parts {
-        add(&mut either, conjunction(alloc, part)?)?;
-    }
-    Ok(Form::Or(either))
-}
 
 /// A candidate as `upper+ 2: POLY`, with the number of its atom.
 fn push_candidate(out: &mut String, candidate: &Candidate) -> Result<(), OutOfMemory> {
@@ -181,67 +146,52 @@ fn guarded_root(
 /// `a*x^2 + b*x + c`
 const GENERAL: Numbers = [A, B, C];
 
-/// `x`
-const LINE: Numbers = [ZERO, ONE, ZERO];
-
 /// `a - x`
 const TO_A: Numbers = [ZERO, [0, 0, 0, -1], A];
-
-/// `b - x`
-const TO_B: Numbers = [ZERO, [0, 0, 0, -1], B];
 
 /// `b - x^2`
 const SQUARE: Numbers = [[0, 0, 0, -1], ZERO, B];
 
-/// `a - x + 2`
-const AFTER: Numbers = [ZERO, [0, 0, 0, -1], [1, 0, 0, 2]];
-
 /// The candidates of the formula, as text.
-fn listed_text(alloc: Global, parts: &[&[(Numbers, u8)]]) -> Result<String, PolyStop> {
-    let form = formula(alloc, parts)?;
-    Ok(candidates_text(alloc, &form)?)
+fn listed_text(alloc: Global, text: &str) -> Result<String, OutOfMemory> {
+    let input = read_input(alloc, text)?;
+    candidates_text(alloc, &input.form)
 }
 
-fn is_listed(alloc: Global, parts: &[&[(Numbers, u8)]], want: &str) -> bool {
-    match listed_text(alloc, parts) {
-        Ok(text) => text.as_str() == want,
+fn is_listed(alloc: Global, text: &str, want: &str) -> bool {
+    match listed_text(alloc, text) {
+        Ok(found) => found.as_str() == want,
         Err(_) => false,
     }
 }
 
-const LISTS: &[(&[&[(Numbers, u8)]], &str)] = &[
+// Each formula has the free names a, b, c and x.
+const LISTS: &[(&str, &str)] = &[
     (
-        &[&[(GENERAL, EQUAL)]],
+        "a*x^2 + b*x + c = 0",
         "linear 0: a*x^2 + b*x + c; upper 0: a*x^2 + b*x + c; lower 0: a*x^2 + b*x + c; below; ",
     ),
     (
-        &[&[(TO_A, LESS), (TO_B, MORE)]],
+        "a - x < 0 and b - x > 0 and c = 0",
         "linear+ 0: a - x; linear+ 1: b - x; below; ",
     ),
     // a polynomial in both groups; it is first where zero is allowed only in the third atom
     (
-        &[
-            &[(AFTER, LESS), (SQUARE, EQUAL)],
-            &[(AFTER, AT_LEAST), (TO_B, AT_MOST)],
-        ],
+        "[a - x + 2 < 0 and b - x^2 = 0] or [a - x + 2 >= 0 and b - x <= 0] or c = 0",
         "linear 1: b - x^2; upper 1: b - x^2; lower 1: b - x^2; linear 2: a - x + 2; linear 3: b - x; linear+ 0: a - x + 2; below; ",
     ),
     // repeats keep the first number; what has no x gives none, and is counted
     (
-        &[
-            &[(LINE, EQUAL), (TO_A, AT_MOST)],
-            &[(LINE, AT_MOST), ([ZERO, ZERO, A], LESS)],
-            &[(TO_B, NOT_EQUAL), (TO_B, LESS)],
-        ],
+        "[x = 0 and a - x <= 0] or [x <= 0 and a < 0] or [b - x <> 0 and b - x < 0] or c = 0",
         "linear 0: x; linear 1: a - x; linear+ 4: b - x; below; ",
     ),
-    (&[], "below; "),
+    ("a + b + c = 0 or 0*x = 0", "below; "),
 ];
 
 #[test]
 fn lists_candidates(rt: HostRuntime) {
-    for (parts, want) in LISTS {
-        assert!(rt; is_listed(rt.alloc(), parts, want));
+    for (text, want) in LISTS {
+        assert!(rt; is_listed(rt.alloc(), text, want));
     }
 }
 
@@ -320,97 +270,4 @@ fn gives_guards_and_points(rt: HostRuntime) {
     for (numbers, which, plus, want) in GUARDS {
         assert!(rt; is_found(rt.alloc(), *numbers, *which, *plus, want));
     }
-}
-
-fn below_text(alloc: Global) -> Result<String, SubstStop> {
-    let found = guarded(alloc, &Candidate::MinusInf, X)?;
-    Ok(guarded_text(alloc, found)?)
-}
-
-#[test]
-fn guards_minus_infinity(rt: HostRuntime) {
-    assert!(rt; matches!(below_text(rt.alloc()), Ok(text) if text.as_str() == "true: below"));
-}
-
-/// The stop of the guard of the upper root.
-fn met(alloc: Global, numbers: Numbers) -> Option<SubstStop> {
-    match general(alloc, numbers) {
-        Ok(poly) => guarded_root(alloc, poly, Which::Upper, false).err(),
-        Err(_) => None,
-    }
-}
-
-const FOURTH: i128 = MOST / 4;
-
-// The coefficients of x^2, x and 1, and the operation with its two numbers; one row for each operation.
-const LIMITS: &[([i128; 3], Op, i128, i128)] = &[
-    ([MOST, MOST, MOST], Op::Mul, MOST, MOST),
-    ([MOST, 1, 2], Op::Mul, MOST, 2),
-    ([MOST, 1, 1], Op::Mul, MOST, 4),
-    ([1, ROOT, -FOURTH], Op::Sub, ROOT * ROOT, -4 * FOURTH),
-    ([MOST, 1, 0], Op::Mul, MOST, 2),
-];
-
-#[test]
-fn tells_the_first_limit_of_a_guard(rt: HostRuntime) {
-    for (numbers, op, left, right) in LIMITS {
-        let [square, slope, free] = *numbers;
-        let numbers = [number(square), number(slope), number(free)];
-        let limit = PolyLimit::Coefficient(Wide {
-            op: *op,
-            left: coef(*left),
-            right: coef(*right),
-        });
-        assert_eq!(rt;
-            met(rt.alloc(), numbers),
-            Some(SubstStop::At {
-                atom: 7,
-                stage: Stage::Guard,
-                limit
-            })
-        );
-    }
-}
-
-/// Whether the choice among the variables is this one, for each row.
-fn is_chosen(form: &Form, rows: &[(&[Var], Option<Var>)]) -> bool {
-    for (vars, want) in rows {
-        if choose(form, vars) != *want {
-            return false;
-        }
-    }
-    true
-}
-
-fn is_chosen_in(found: Result<Form, PolyStop>, rows: &[(&[Var], Option<Var>)]) -> bool {
-    match found {
-        Ok(form) => is_chosen(&form, rows),
-        Err(_) => false,
-    }
-}
-
-fn cube(alloc: Global) -> Result<Form, PolyStop> {
-    let poly = Poly::power(alloc, X, 3)?;
-    let signs = signs_of(EQUAL);
-    Ok(Form::Atom(Atom { poly, signs }))
-}
-
-// In a*x^2 + b*x + c = 0 and x > 0.
-const CHOICES: &[(&[Var], Option<Var>)] = &[
-    (&[X, Var(1), Var(0)], Some(Var(1))),
-    (&[X], Some(X)),
-    (&[], None),
-];
-
-// In x^3 = 0.
-const HIGH_CHOICES: &[(&[Var], Option<Var>)] = &[
-    (&[X], None),
-    (&[X, Var(0), Var(1)], Some(Var(0))),
-];
-
-#[test]
-fn chooses_the_least_degree(rt: HostRuntime) {
-    let form = formula(rt.alloc(), &[&[(GENERAL, EQUAL), (LINE, MORE)]]);
-    assert!(rt; is_chosen_in(form, CHOICES));
-    assert!(rt; is_chosen_in(cube(rt.alloc()), HIGH_CHOICES));
 }

@@ -1,12 +1,11 @@
 //! Values at roots and formulas for signs, worked out by hand. The variables are `a`, `b`, `c` and `x`, numbered from 0.
 
 use crate::built::{
-    A, AT_LEAST, AT_MOST, B, C, EQUAL, LESS, MORE, MOST, NOT_EQUAL, ONE, ROOT, X, ZERO, coef,
-    linear, number, quadratic, root, signs_of,
+    A, AT_LEAST, AT_MOST, B, C, EQUAL, LESS, MORE, MOST, NOT_EQUAL, ONE, X, ZERO, linear,
+    quadratic, root, signs_of,
 };
 use crate::spelled::{is_text, push_form, push_poly};
-use qe_coef::{Op, Wide};
-use qe_root::{Form, OutOfMemory, Poly, PolyLimit, PolyStop, at_root, sign_form};
+use qe_root::{Form, OutOfMemory, Poly, PolyStop, at_root, sign_form};
 use std::alloc::Global;
 
 fn form_text(alloc: Global, form: &Form) -> Result<String, OutOfMemory> {
@@ -23,14 +22,6 @@ fn parts_text(alloc: Global, parts: &(Poly, Poly)) -> Result<String, OutOfMemory
     push_poly(&mut out, &parts.1)?;
     out.push_str("]*sqrt(r)")?;
     Ok(out)
-}
-
-fn wide(op: Op, left: i128, right: i128) -> PolyStop {
-    PolyStop::Limit(PolyLimit::Coefficient(Wide {
-        op,
-        left: coef(left),
-        right: coef(right),
-    }))
 }
 
 /// The two parts of the value of the polynomial at the root, by their coefficients.
@@ -138,48 +129,6 @@ fn gives_the_value_at_a_root(rt: HostRuntime) {
     }
 }
 
-// The coefficients of x^2, x and 1, then p, q, r and s, and the operation with its two numbers; one row for each operation.
-#[test]
-fn tells_the_first_limit_of_a_value(rt: HostRuntime) {
-    let half = MOST / 2;
-    let cases: [([i128; 7], Op, i128, i128); 18] = [
-        // M*x + 1 at M: beta*p
-        ([0, MOST, 1, MOST, 0, 0, 1], Op::Mul, MOST, MOST),
-        // p*p, q*q, that times r, and the sum
-        ([1, 0, 0, -MOST, 2, MOST, 1], Op::Mul, -MOST, -MOST),
-        ([1, 0, 0, 0, -MOST, 0, MOST], Op::Mul, -MOST, -MOST),
-        ([1, 0, 0, 0, 2, MOST, MOST], Op::Mul, 4, MOST),
-        ([1, 0, 0, 1, 1, MOST, MOST], Op::Add, 1, MOST),
-        // alpha*(p^2 + q^2*r)
-        ([2, MOST, 0, 0, 1, MOST, 1], Op::Mul, 2, MOST),
-        // beta*p, and that times s
-        ([0, MOST, 0, 3, MOST, 0, MOST], Op::Mul, MOST, 3),
-        ([0, 1, 0, 5, 0, 0, MOST], Op::Mul, 5, MOST),
-        // s*s, and gamma times that
-        ([0, 0, MOST, 0, 0, 0, -MOST], Op::Mul, -MOST, -MOST),
-        ([0, 0, MOST, 0, 0, 0, 2], Op::Mul, MOST, 4),
-        // the two sums to A: 1 and M, then 1 + 1 and M
-        ([1, MOST, MOST, 1, 0, 0, 1], Op::Add, 1, MOST),
-        ([1, 1, MOST, 1, 0, 0, 1], Op::Add, 2, MOST),
-        // alpha*p, that times q, and 2 times that; p^2 + q^2*r is 0
-        ([MOST, 0, 0, 2, 2, -1, 1], Op::Mul, MOST, 2),
-        ([half, 0, 0, 2, 2, -1, 1], Op::Mul, MOST - 1, 2),
-        ([-MOST, 0, 0, 1, 1, -1, 1], Op::Mul, -MOST, 2),
-        // beta*q, and that times s
-        ([0, MOST, 0, 0, 3, 0, 1], Op::Mul, MOST, 3),
-        ([0, MOST, 0, 0, 1, 0, 2], Op::Mul, MOST, 2),
-        // the sum to B: 2 and M
-        ([1, MOST, 0, 1, 1, -1, 1], Op::Add, 2, MOST),
-    ];
-    for (numbers, op, left, right) in cases {
-        let [alpha, beta, gamma, p, q, r, s] = numbers;
-        let coefficients = [number(alpha), number(beta), number(gamma)];
-        let parts = [number(p), number(q), number(r), number(s)];
-        let met = value(rt.alloc(), coefficients, parts).err();
-        assert_eq!(rt; met, Some(wide(op, left, right)));
-    }
-}
-
 /// The text of the form for `A + B*sqrt(r)`.
 fn sign_text(
     alloc: Global,
@@ -211,6 +160,14 @@ const FORMS: &[([i128; 4], [i128; 4], [i128; 4], u8, &str)] = &[
     (A, ZERO, C, AT_LEAST, "a >= 0"),
     ([0, 0, 0, -5], ZERO, [0, 0, 0, 2], LESS, "-5 < 0"),
     (ZERO, ZERO, A, NOT_EQUAL, "0 <> 0"),
+    // and nothing is computed there
+    (
+        [0, 0, 0, MOST],
+        ZERO,
+        [0, 0, 0, MOST],
+        EQUAL,
+        "170141183460469231731687303715884105727 = 0",
+    ),
     // N = a^2 - b^2*c
     (A, B, C, EQUAL, "[a*b <= 0 and a^2 - b^2*c = 0]"),
     (A, B, C, NOT_EQUAL, "[a*b > 0 or a^2 - b^2*c <> 0]"),
@@ -331,42 +288,4 @@ fn gives_the_form_of_a_sign(rt: HostRuntime) {
     for (plain, part, radicand, bits, want) in FORMS {
         assert!(rt; is_text(sign_text(rt.alloc(), *plain, *part, *radicand, *bits), want));
     }
-}
-
-// A, B and r, the set of signs, and the operation with its two numbers.
-const FORM_LIMITS: &[(i128, i128, i128, u8, Op, i128, i128)] = &[
-    // A*B, for = and <> alone; else A*A is the first
-    (MOST, 2, 0, EQUAL, Op::Mul, MOST, 2),
-    (MOST, 2, 0, NOT_EQUAL, Op::Mul, MOST, 2),
-    (MOST, 2, 0, LESS, Op::Mul, MOST, MOST),
-    (MOST, 2, 0, AT_LEAST, Op::Mul, MOST, MOST),
-    (MOST, 1, 0, EQUAL, Op::Mul, MOST, MOST),
-    // B*B, and that times r
-    (1, -MOST, 1, EQUAL, Op::Mul, -MOST, -MOST),
-    (1, -MOST, 1, MORE, Op::Mul, -MOST, -MOST),
-    (1, 2, MOST, AT_MOST, Op::Mul, 4, MOST),
-    // the difference
-    (ROOT, 1, -MOST, LESS, Op::Sub, ROOT * ROOT, -MOST),
-    (-ROOT, 1, -MOST, NOT_EQUAL, Op::Sub, ROOT * ROOT, -MOST),
-];
-
-#[test]
-fn tells_the_first_limit_of_a_form(rt: HostRuntime) {
-    for (plain, part, radicand, bits, op, left, right) in FORM_LIMITS {
-        let found = sign_text(
-            rt.alloc(),
-            number(*plain),
-            number(*part),
-            number(*radicand),
-            *bits,
-        );
-        assert_eq!(rt; found.err(), Some(wide(*op, *left, *right)));
-    }
-}
-
-#[test]
-fn computes_nothing_without_the_root(rt: HostRuntime) {
-    let text = sign_text(rt.alloc(), number(MOST), number(0), number(MOST), EQUAL);
-    let want = "170141183460469231731687303715884105727 = 0";
-    assert!(rt; is_text(text, want));
 }

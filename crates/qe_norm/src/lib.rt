@@ -6,8 +6,6 @@ mod group;
 mod opening;
 mod prenex;
 mod size;
-#[cfg(test)]
-mod tests;
 mod walk;
 
 pub use opening::normal;

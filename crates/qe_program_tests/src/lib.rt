@@ -3,4 +3,6 @@
 #![tactic(auto)]
 
 #[cfg(test)]
+mod discs;
+#[cfg(test)]
 mod rows;
