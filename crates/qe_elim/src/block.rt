@@ -1,6 +1,6 @@
 //! Elimination of one block.
 
-ghost use Rattle.std.specs.Prelude.{◌≡◌, ◌≢◌, ◌<◌, ◌^◌, map, AllPairs, IfOk};
+ghost use Rattle.std.specs.Prelude.{◌≡◌, ◌≢◌, ◌≤◌, ◌<◌, ◌^◌, length, map, AllPairs, IfOk};
 ghost use Rattle.qe_form.specs.Tree.{tree};
 ghost use Rattle.qe_form.specs.Measures.{count};
 ghost use Rattle.qe_form.specs.Plain.{IsPlainAndProper};
@@ -50,6 +50,7 @@ pub fn eliminate_block(
     limit: u32,
 ) -> Result<Form, ElimStop>
     requires distinct { AllPairs (λ x y. x ≢ y) (map (λ v. v.0) block.now.vars) }
+    requires short { length block.now.vars ≤ 65536 }
     requires fine { IsFine (tree matrix) }
     requires small { count (tree matrix) < 2 ^ 50 }
     ensures { IsBlock limit number (block_of block.now) (tree matrix) result }

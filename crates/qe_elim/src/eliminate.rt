@@ -1,7 +1,7 @@
 //! Elimination of all blocks of a prenex form.
 
 ghost use Rattle.std.specs.Prelude.{◌≤◌, ◌<◌, ◌-◌, ◌^◌, length, nat_eq, IfOk};
-ghost use Rattle.std.specs.List.{IsDistinct};
+ghost use Rattle.std.specs.List.{IsDistinct, All};
 ghost use Rattle.qe_form.specs.Tree.{tree};
 ghost use Rattle.qe_form.specs.Measures.{count};
 ghost use Rattle.qe_form.specs.Plain.{IsPlain};
@@ -60,6 +60,7 @@ impl From<AllocError> for ElimStop {
 fn eliminate_blocks(alloc: Global, prenex: &Prenex, limit: u32) -> Result<Outcome, ElimStop>
     requires distinct { IsDistinct nat_eq (variables prenex.now.blocks.items) }
     requires few { length prenex.now.blocks.items < 2 ^ 32 - 1 }
+    requires short { All (λ b. length b.vars ≤ 65536) prenex.now.blocks.items }
     requires fine { IsFine (tree prenex.now.matrix) }
     requires small { count (tree prenex.now.matrix) ≤ 65536 }
     ensures { IsAnswer limit (blocks_of prenex.now.blocks.items) (tree prenex.now.matrix) result }

@@ -1,6 +1,6 @@
 //! The search through the tree of a block, depth first. A formula that was met is passed over when it comes up again.
 
-ghost use Rattle.std.specs.Prelude.{◌≡◌, ◌≢◌, ◌<◌, ◌^◌, ◌++◌, map, false, OnOk, AllPairs};
+ghost use Rattle.std.specs.Prelude.{◌≡◌, ◌≢◌, ◌≤◌, ◌<◌, ◌^◌, ◌++◌, length, map, false, OnOk, AllPairs};
 ghost use Rattle.std.specs.Option.{option_map};
 ghost use Rattle.qe_form.specs.Tree.{tree};
 ghost use Rattle.qe_tree.specs.Tree.{is_among};
@@ -205,6 +205,7 @@ fn turn(
 /// once. After a node that fails the search goes on, since a True leaf decides over it.
 pub fn search(alloc: Global, vars: &[Var], form: Form, limit: u32) -> Result<Ended, SearchStop>
     requires distinct { AllPairs (λ x y. x ≢ y) (map (λ v. v.0) vars.now) }
+    requires short { length vars.now ≤ 65536 }
     requires root { IsRoot (tree form) }
     requires proper { IsPlainAndProper (tree form) }
     requires small { count (tree form) < 2 ^ 50 }

@@ -5,4 +5,5 @@ pub mod Tries
 pub mod Growing
 pub mod Fine
 pub mod Sound
+pub mod Truth
 pub mod Pieces

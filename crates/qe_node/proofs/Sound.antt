@@ -109,12 +109,9 @@ complete x f fine low =
     made_complete (λ a. a) x f (atoms f) (candidates x f) (map_same (atoms f))
     (members.all_in (λ a. IsPolynomial a.poly) (atoms f) (in_each (λ a. IsPolynomial a.poly) (atoms f) (atoms_fine f fine))) refl (fine_plain f fine) low
 
-module _ (x : ℕ) (f : Formula) (good : IsSimplified f) (low : degree x f ≤ 2) where
-  fine : IsFine f
-  fine = simplified_fine f good
-
-  proper : IsPlainAndProper f
-  proper = simplified_is_proper f good
+module _ (x : ℕ) (f : Formula) (fine : IsFine f) (proper : IsPlainAndProper f) (low : degree x f ≤ 2) where
+  none : HasNoQuantifier f
+  none = plain_no_quantifier f (fine_plain f fine)
 
   module _ (c : Candidate) (of : IsOf x f c) (over : IsOverPolynomial c) where
     guard_fine : IsFine (simplified (guard x c))
@@ -141,14 +138,14 @@ module _ (x : ℕ) (f : Formula) (good : IsSimplified f) (low : degree x f ≤ 2
     has_free y g none h = (occurring_is_free y g none).0 h
 
     own_has : (y : ℕ) → (y ≢ x) × OccursInOwn y c → Has y f × (y ≢ x)
-    own_has y h = ((occurring_is_free y f (simplified_no_quantifier f good)).1 (of.free y h.1), h.0)
+    own_has y h = ((occurring_is_free y f none).1 (of.free y h.1), h.0)
 
     fewer : (y : ℕ) → Has y (successor x f c) → Has y f × (y ≢ x)
     fewer y h = elim (usable.kept.free y (has_free y (successor x f c) (simplified_no_quantifier (successor x f c) good_successor) h)) [
       | inl in_guard ↦ own_has y (usable.guarded.guard-free y in_guard)
       | inr rest ↦ elim rest [
         | inl in_form ↦ elim (made_left x (point_of x c) (own c) f (at_candidate x f c) fine refl y in_form) [
-          | inl stays ↦ ((occurring_is_free y f (simplified_no_quantifier f good)).1 stays.1, stays.0)
+          | inl stays ↦ ((occurring_is_free y f none).1 stays.1, stays.0)
           | inr at ↦ own_has y (usable.guarded.point-free y (in_point y (point_of x c) at))
         ]
         | inr none ↦ absurd none
@@ -185,10 +182,10 @@ module _ (x : ℕ) (f : Formula) (good : IsSimplified f) (low : degree x f ≤ 2
         ((λ t. some.1 (all.0 t)), (λ t. all.1 (some.0 t)));
   }
 
-at_choice_grown : (vars : List ℕ) (f : Formula) → IsSimplified f → (o : Option Var) → choice f (variables vars) ≡ o → (x : ℕ) (parts : List (ℕ × Formula))
+at_choice_grown : (vars : List ℕ) (f : Formula) → IsFine f → IsPlainAndProper f → (o : Option Var) → choice f (variables vars) ≡ o → (x : ℕ) (parts : List (ℕ × Formula))
     → at_choice f o ≡ successors x parts → IsGrown IsSimplified vars f x parts
-at_choice_grown vars f good None chosen x parts is = absurd (cc)
-at_choice_grown vars f good (Some v) chosen x parts is = by_result (given_by v.0 f 0 (candidates v.0 f)) refl is
+at_choice_grown vars f fine proper None chosen x parts is = absurd (cc)
+at_choice_grown vars f fine proper (Some v) chosen x parts is = by_result (given_by v.0 f 0 (candidates v.0 f)) refl is
   where
     low : degree v.0 f ≤ 2
     low = let h : IfSome (Some v) (λ u. IsOneOf u (variables vars) × (degree u.0 f ≤ 2)) = subst (λ o. IfSome o (λ u. IsOneOf u (variables vars) × (degree u.0 f ≤ 2))) chosen (choice_is f (variables vars)) in h.1
@@ -197,8 +194,12 @@ at_choice_grown vars f good (Some v) chosen x parts is = by_result (given_by v.0
     by_result (Ok ps) given same =
         let same_x : v.0 ≡ x = cc in
         let same_parts : ps ≡ parts = cc in
-        subst (λ z. IsGrown IsSimplified vars f z parts) same_x (subst (λ qs. IsGrown IsSimplified vars f v.0 qs) same_parts (grown v.0 f good low vars ps (chosen_in f vars v chosen) given))
+        subst (λ z. IsGrown IsSimplified vars f z parts) same_x (subst (λ qs. IsGrown IsSimplified vars f v.0 qs) same_parts (grown v.0 f fine proper low vars ps (chosen_in f vars v chosen) given))
     by_result (Err s) given same = absurd (cc)
+
+-- the successors of a node are grown from it
+pub expansion_grown : (vars : List ℕ) (f : Formula) → IsFine f → IsPlainAndProper f → (x : ℕ) (parts : List (ℕ × Formula)) → expansion vars f ≡ successors x parts → IsGrown IsSimplified vars f x parts
+expansion_grown vars f fine proper x parts is = at_choice_grown vars f fine proper (choice f (variables vars)) refl x parts is
 
 -- the expansion of nodes is sound: of a simplified formula come simplified ones
 pub expansion_sound : tree.IsSound IsSimplified expansion
@@ -206,5 +207,5 @@ expansion_sound = record {
   fine = simplified_fine;
   good = fine_simplified;
   keeps = fine_keeps;
-  grows = λ vars f good x parts is. at_choice_grown (remaining vars f) f good (choice f (variables (remaining vars f))) refl x parts is;
+  grows = λ vars f good x parts is. expansion_grown (remaining vars f) f (simplified_fine f good) (simplified_is_proper f good) x parts is;
 }

@@ -69,7 +69,7 @@ after_first None rest none = none
 pub substituted_small : (x : ℕ) (p : Point) (from : Option Polynomial) (f : Formula) → stop x p from f ≡ None → count (substituted x p from f) ≤ 65536
 substituted_small x p from f none = no_size_limit (count (substituted x p from f)) (after_first (first_limit x p from 0 (atoms f)) (size_limit x p from f) none)
 
-proper_plain : (f : Formula) → IsPlainAndProper f → IsPlain f
+pub proper_plain : (f : Formula) → IsPlainAndProper f → IsPlain f
 proper_plain f h = plain_weaker (λ a. IsProper a.signs) (λ a. Unit {0}) (λ a k. tt) f h
 
 -- the simplified And of a guard and of the formula at its point

@@ -5,6 +5,7 @@ pub mod Equal
 pub mod Successors
 pub mod Trial
 pub mod Answer
+pub mod Truth
 pub mod Piece
 pub mod Growth
 pub mod PieceLaws

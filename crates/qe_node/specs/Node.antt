@@ -1,5 +1,5 @@
 -- What a node is.
-use Rattle.std.specs.Prelude.{ℕ, ◌≡◌, ◌≢◌, ◌<◌, ◌^◌, List, AllPairs}
+use Rattle.std.specs.Prelude.{ℕ, ◌≡◌, ◌≢◌, ◌<◌, ◌≤◌, ◌^◌, List, length, AllPairs}
 use Rattle.std.specs.Coded.{Coded, code_by, coded_list, coded_ℕ}
 use Rattle.qe_form.specs.Formula.{Formula}
 use Rattle.qe_form.specs.Measures.{count}
@@ -26,9 +26,11 @@ sight-back n = λ i. record { vars = variables-key n.vars n.form i; form = formu
 abbrev pub sight_code : Coded Sight
 sight_code = code_by (List ℕ) (coded_list coded_ℕ) sight_key sight_of sight-back
 
--- no variable stands twice, and each occurs in the formula, which is plain, with proper sets of signs, and not large
+-- there are at most 65,536 variables, none stands twice, and each occurs in the formula, which is plain, with proper sets of signs, and
+-- not large
 pub record IsNode (n : Sight) : Type 0 where
   pub distinct : AllPairs (λ x y. x ≢ y) n.vars
+  pub short : length n.vars ≤ 65536
   pub occurring : remaining n.vars n.form ≡ n.vars
   pub proper : IsPlainAndProper n.form
   pub small : count n.form < 2 ^ 50

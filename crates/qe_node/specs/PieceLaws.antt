@@ -29,7 +29,7 @@ true_is_leaf k holds = both (is_empty (variables_of k)) _ holds
 
 -- ---- fewer variables
 
-at_most : (p : ℕ → Bool) (xs : List ℕ) → length (filter p xs) ≤ length xs
+pub at_most : (p : ℕ → Bool) (xs : List ℕ) → length (filter p xs) ≤ length xs
 at_most p [] = omega arith
 at_most p (x ∷ xs) = by (at_most p xs) (p x)
   where

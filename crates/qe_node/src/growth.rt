@@ -1,6 +1,6 @@
 //! The successors of a node.
 
-ghost use Rattle.std.specs.Prelude.{◌≡◌, ◌≢◌, ◌≤◌, false, true, not, eqb, All, AllPairs, IfOk, map};
+ghost use Rattle.std.specs.Prelude.{◌≡◌, ◌≢◌, ◌≤◌, false, true, not, eqb, length, All, AllPairs, IfOk, map};
 ghost use Rattle.qe_form.specs.Measures.{degree};
 ghost use Rattle.qe_form.specs.Plain.{IsPlainAndProper};
 ghost use Rattle.qe_form.specs.Tree.{tree};
@@ -9,7 +9,9 @@ ghost use Rattle.qe_points.specs.Guarded.{HasRoot};
 ghost use Rattle.qe_node.specs.Successors.{given_by, is_true};
 ghost use Rattle.qe_node.specs.Answer.{IsAnswer, others, outcome};
 ghost use Rattle.qe_node.specs.Growth.{IsGrowth, nodes_below};
+ghost use Rattle.qe_node.specs.Truth.{KeepsTruth};
 
+use crate::polynomials::look_at;
 use crate::trial::{Trial, try_candidate};
 use crate::{Form, Node, NodeStop, OutOfMemory, Sequence, Var, Vars, root};
 use qe_piece::{Made, Never, Next, Stop};
@@ -88,6 +90,7 @@ fn grow<T: Stop>(
     stop: &mut T,
 ) -> Result<Vec<Next<Node>>, GrowthStop>
     requires distinct { AllPairs (λ x y. x ≢ y) (map (λ v. v.0) vars.now) }
+    requires short { length vars.now ≤ 65536 }
     requires proper { IsPlainAndProper (tree form.now) }
     requires degree { degree x.0 (tree form.now) ≤ 2 }
     requires roots { All (HasRoot x.0) candidates.now }
@@ -128,6 +131,7 @@ fn grow_at<T: Stop>(
     stop: &mut T,
 ) -> Result<Vec<Next<Node>>, GrowthStop>
     requires distinct { AllPairs (λ x y. x ≢ y) (map (λ v. v.0) vars.now) }
+    requires short { length vars.now ≤ 65536 }
     requires proper { IsPlainAndProper (tree form.now) }
     requires degree { degree x.0 (tree form.now) ≤ 2 }
     ensures answer { IsGrowth (λ v. v.items) (nodes_below (others x.0 (map (λ v. v.0) vars.now)) (given_by x.0 (tree form.now) 0 (listed.candidates x.0 (tree form.now)))) (T.told stop.new) result }
@@ -144,12 +148,15 @@ fn grow_at<T: Stop>(
 /// the node fail, and so does a limit or too many atoms in the formula at the candidate's point. A candidate whose guard is False is
 /// skipped. The new formula is the simplified And of the guard and the formula at the point; where it is False the candidate is
 /// skipped too, and else it gives a successor with the candidate's number. The list ends after the first successor that is True.
-/// `Stopped` comes only where the stop is told when the call ends; it is asked before each candidate.
+/// `Stopped` comes only where the stop is told when the call ends; it is asked before each candidate. At every point of numbers the
+/// node's formula is true for some values of its variables exactly where that of some successor is so for values of its own.
 pub fn expand<T: Stop>(alloc: Global, node: &Node, stop: &mut T) -> Made<Node>
     ensures answer { IsAnswer (outcome node.now) (T.told stop.new) result }
+    ensures truth { KeepsTruth node.now result }
     ensures stays { T.told stop.old ≡ true → T.told stop.new ≡ true }
     ensures basis { T.basis stop.new ≡ T.basis stop.old }
 {
+    look_at(&node.form);
     let vars = node.vars.items();
     let Some(x) = choose(&node.form, vars) else {
         return Made::Failed(NodeStop::DegreeExcess);

@@ -1,6 +1,6 @@
 //! The node of a formula.
 
-ghost use Rattle.std.specs.Prelude.{◌≡◌, ◌≢◌, ◌<◌, ◌^◌, map, AllPairs, IfOk};
+ghost use Rattle.std.specs.Prelude.{◌≡◌, ◌≢◌, ◌<◌, ◌≤◌, ◌^◌, length, map, AllPairs, IfOk};
 ghost use Rattle.qe_form.specs.Measures.{count};
 ghost use Rattle.qe_form.specs.Plain.{IsPlainAndProper};
 ghost use Rattle.qe_form.specs.Tree.{tree};
@@ -29,11 +29,12 @@ fn remaining(alloc: Global, vars: &[Var], form: &Form) -> Result<Vars, OutOfMemo
     Ok(left)
 }
 
-/// The node of a formula: with those of the variables that occur in it, in their order. The variables are distinct; the formula
-/// is plain, with sets of signs that are neither empty nor full, and has fewer than 2^50 atoms and constants. `Err` for want of
-/// memory alone.
+/// The node of a formula: with those of the variables that occur in it, in their order. The variables are distinct, and at most
+/// 65,536; the formula is plain, with sets of signs that are neither empty nor full, and has fewer than 2^50 atoms and constants.
+/// `Err` for want of memory alone.
 pub fn root(alloc: Global, vars: &[Var], form: Form) -> Result<Node, OutOfMemory>
     requires distinct { AllPairs (λ x y. x ≢ y) (map (λ v. v.0) vars.now) }
+    requires short { length vars.now ≤ 65536 }
     requires proper { IsPlainAndProper (tree form) }
     requires small { count (tree form) < 2 ^ 50 }
     ensures form { IfOk result (λ n. n.form ≡ tree form) }

@@ -35,10 +35,8 @@ mutual
 pub fine_no_quantifier : (f : Formula) → IsFine f → HasNoQuantifier f
 fine_no_quantifier f fine = plain_no_quantifier _ f fine
 
-module _ {F : Type 0} (Good : Formula → Type 0) (expand : Expansion F) (sound : IsSound Good expand) (vars : List ℕ) where
-  pub good_no_quantifier : (f : Formula) → Good f → HasNoQuantifier f
-  good_no_quantifier f good = fine_no_quantifier f (sound.fine f good)
-
+-- no good formula has a quantifier
+module _ (Good : Formula → Type 0) (no_quantifier : (f : Formula) → Good f → HasNoQuantifier f) (vars : List ℕ) where
   -- some of the formulas is true at a point that differs from p at the variables alone
   record SomeReaches (fs : List Formula) (p : Point) : Type 0 where
     at : Point
@@ -56,21 +54,15 @@ module _ {F : Type 0} (Good : Formula → Type 0) (expand : Expansion F) (sound 
   reach_wholes : (fs : List Formula) → Each Good fs → (r p : Point) → IsPoint r → Off vars r p → SomeIs (trees_of fs) true r → SomeIs (trees_of (map (whole vars) fs)) true p
   reach_wholes [] good r p valid off t = absurd t
   reach_wholes (f ∷ fs) good r p valid off t = elim t [
-    | inl first ↦ inl (reaches_whole vars f (good_no_quantifier f good.0) p (record { at = r; valid = valid; off = off; is = first }))
+    | inl first ↦ inl (reaches_whole vars f (no_quantifier f good.0) p (record { at = r; valid = valid; off = off; is = first }))
     | inr later ↦ inr (reach_wholes fs good.1 r p valid off later)
   ]
 
-  -- the law
-  pub growth_keeps_truth : (f : Formula) → Good f → (x : ℕ) (parts : List (ℕ × Formula)) → expand (remaining vars f) f ≡ successors x parts
+  -- successors that are grown from a formula keep its truth
+  pub grown_keeps_truth : (f : Formula) → HasNoQuantifier f → (x : ℕ) (parts : List (ℕ × Formula)) → IsGrown Good (remaining vars f) f x parts
       → (p : Point) → IsPoint p → Is (whole vars f) true p ↔ Is (Or (trees_of (map (whole vars) (forms_of parts)))) true p
-  growth_keeps_truth f good x parts e p valid = (there, back)
+  grown_keeps_truth f none x parts grown p valid = (there, back)
     where
-      none : HasNoQuantifier f
-      none = good_no_quantifier f good
-
-      grown : IsGrown Good (remaining vars f) f x parts
-      grown = sound.grows vars f good x parts e
-
       there : Is (whole vars f) true p → SomeIs (trees_of (map (whole vars) (forms_of parts))) true p
       there t =
           let w = whole_reaches vars f p valid t in
@@ -80,3 +72,12 @@ module _ {F : Type 0} (Good : Formula → Type 0) (expand : Expansion F) (sound 
       back t =
           let w = wholes_reach (forms_of parts) p valid t in
           reaches_whole vars f none p (ex_reaches vars f x (left_in vars f x grown.chosen).0 w.at p w.valid w.off ((grown.truth w.at w.valid).1 w.is))
+
+module _ {F : Type 0} (Good : Formula → Type 0) (expand : Expansion F) (sound : IsSound Good expand) (vars : List ℕ) where
+  good_no_quantifier : (f : Formula) → Good f → HasNoQuantifier f
+  good_no_quantifier f good = fine_no_quantifier f (sound.fine f good)
+
+  -- the law
+  pub growth_keeps_truth : (f : Formula) → Good f → (x : ℕ) (parts : List (ℕ × Formula)) → expand (remaining vars f) f ≡ successors x parts
+      → (p : Point) → IsPoint p → Is (whole vars f) true p ↔ Is (Or (trees_of (map (whole vars) (forms_of parts)))) true p
+  growth_keeps_truth f good x parts e = grown_keeps_truth Good good_no_quantifier vars f (good_no_quantifier f good) x parts (sound.grows vars f good x parts e)

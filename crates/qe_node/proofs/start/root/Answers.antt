@@ -5,4 +5,4 @@ use Rattle.qe_node.proofs.start.root.Goals as goal
 
 pub invariant_of-result : goal.invariant_of-result
 invariant_of-result c =
-    node_of (numbers c.args.vars.now) (tree c.args.form) (numbers c.in_ok-remaining.field-0) (tree c.args.form) c.in_ok-remaining.ensures refl c.requires.distinct c.requires.proper c.requires.small
+    node_of c.args.vars.now (tree c.args.form) (numbers c.in_ok-remaining.field-0) (tree c.args.form) c.in_ok-remaining.ensures refl c.requires.distinct c.requires.short c.requires.proper c.requires.small
