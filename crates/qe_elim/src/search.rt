@@ -1,13 +1,12 @@
 //! The search through the tree of a block, depth first. A formula that was met is passed over when it comes up again.
 
-ghost use Rattle.std.specs.Prelude.{◌≡◌, ◌≢◌, ◌<◌, ◌^◌, ◌++◌, map, false, OnOk, AllPairs};
+ghost use Rattle.std.specs.Prelude.{◌≡◌, ◌≢◌, ◌≤◌, ◌<◌, ◌^◌, ◌++◌, length, map, false, OnOk, AllPairs};
 ghost use Rattle.std.specs.Option.{option_map};
 ghost use Rattle.qe_form.specs.Tree.{tree};
 ghost use Rattle.qe_tree.specs.Tree.{is_among};
 ghost use Rattle.qe_tree.specs.Tree as spec;
 ghost use Rattle.qe_form.specs.Measures.{count};
-ghost use Rattle.qe_form.specs.Plain.{IsPlainAndProper};
-ghost use Rattle.qe_elim.specs.Answer.{IsRoot};
+ghost use Rattle.qe_simp.specs.Shape.{IsSimplified};
 ghost use Rattle.qe_elim.specs.Search.{steps_of, fault_of, entry_of, entries, entry_below, IsGrowth, leaf_of, failure_at, entries_below, or_else, state_of, visited, IsTurn, IsEnd};
 
 use crate::OutOfMemory;
@@ -205,8 +204,8 @@ fn turn(
 /// once. After a node that fails the search goes on, since a True leaf decides over it.
 pub fn search(alloc: Global, vars: &[Var], form: Form, limit: u32) -> Result<Ended, SearchStop>
     requires distinct { AllPairs (λ x y. x ≢ y) (map (λ v. v.0) vars.now) }
-    requires root { IsRoot (tree form) }
-    requires proper { IsPlainAndProper (tree form) }
+    requires short { length vars.now ≤ 65536 }
+    requires simplified { IsSimplified (tree form) }
     requires small { count (tree form) < 2 ^ 50 }
     ensures { IsEnd (map (λ v. v.0) vars.now) (tree form) limit result }
 {
