@@ -1,35 +1,36 @@
 -- The formula at the root of a block's tree.
-use Rattle.std.proofs.Common.{◌≡◌, sym, ap, subst, ◌^◌, ◌<◌, Result, Ok, Err, IfOk}
+use Rattle.std.proofs.Common.{◌≡◌, sym, subst, ◌^◌, ◌<◌, Result, Ok, Err, IfOk}
 use Rattle.qe_form.specs.declared.form.Form.{Form}
 use Rattle.qe_form.specs.Formula.{Formula}
 use Rattle.qe_form.specs.Tree.{tree}
 use Rattle.qe_form.specs.Measures.{count}
-use Rattle.qe_form.specs.Plain.{IsPlainAndProper}
+use Rattle.qe_form.specs.Plain.{IsPlain}
 use Rattle.qe_form.specs.Negation.{negated}
 use Rattle.qe_simp.specs.Simplified.{simplified}
-use Rattle.qe_simp.proofs.Shapes.{simplified_is_proper}
-use Rattle.qe_tree.specs.Sound.{IsFine}
-use Rattle.qe_tree.proofs.Stands.{negated_fine}
-use Rattle.qe_tree.proofs.Small.{count_negated, simplified_small}
-use Rattle.qe_node.specs.Successors.{expansion}
-use Rattle.qe_elim.specs.Answer.{IsRoot}
-use Rattle.qe_elim.proofs.Soundness.{Good, sound}
+use Rattle.qe_simp.specs.Meaning.{Keeps}
+use Rattle.qe_simp.specs.Shape.{IsSimplified}
+use Rattle.qe_tree.specs.Sound.{IsReady}
+use Rattle.qe_tree.specs.Block.{Quantifier, opened, root}
+use Rattle.qe_tree.proofs.Stands.{negated_plain}
+use Rattle.qe_tree.proofs.Small.{root_small}
 
-pub proper : {E : Type 0} (m : Formula) → IsFine m → (r : Result Form E) → IfOk r (λ f. tree f ≡ simplified m) → IfOk r (λ f. IsPlainAndProper (tree f))
-proper m fine (Ok f) exact = subst IsPlainAndProper (sym exact) (simplified_is_proper (simplified m) (sound.good m fine))
-proper m fine (Err e) exact = tt
+-- what simplifying a plain formula says
+pub simple : {E : Type 0} (f : Formula) → IsPlain f → (r : Result Form E) → IfOk r (λ h. IsPlain f → IsSimplified (tree h)) → IfOk r (λ h. IsSimplified (tree h))
+simple f plain (Ok h) is = is plain
+simple f plain (Err e) is = tt
 
-pub is_root : {E : Type 0} (m : Formula) → IsFine m → (r : Result Form E) → IfOk r (λ f. tree f ≡ simplified m) → IfOk r (λ f. IsRoot (tree f))
-is_root m fine (Ok f) exact = (m, (fine, exact))
-is_root m fine (Err e) exact = tt
+pub ready : {E : Type 0} (f g : Formula) → g ≡ f → IsPlain f → (r : Result Form E) → IfOk r (λ h. tree h ≡ simplified g) → IfOk r (λ h. Keeps g (tree h)) → IfOk r (λ h. IsPlain g → IsSimplified (tree h))
+    → IfOk r (λ _. IsReady IsSimplified f)
+ready f g same plain (Ok h) exact keeps is = subst (IsReady IsSimplified) same (record {
+  good = subst IsSimplified exact (is (subst IsPlain (sym same) plain));
+  keeps = subst (Keeps g) exact keeps;
+})
+ready f g same plain (Err e) exact keeps is = tt
 
-pub small : {E : Type 0} (m : Formula) → IsFine m → count m < 2 ^ 50 → (r : Result Form E) → IfOk r (λ f. tree f ≡ simplified m) → IfOk r (λ f. count (tree f) < 2 ^ 50)
-small m fine few (Ok f) exact = subst (λ g. count g < 2 ^ 50) (sym exact) (simplified_small Good expansion sound m fine few)
-small m fine few (Err e) exact = tt
+pub small : {E : Type 0} (kind : Quantifier) (m : Formula) → count m < 2 ^ 50 → (r : Result Form E) → IfOk r (λ h. tree h ≡ root kind m) → IfOk r (λ _. IsReady IsSimplified (opened kind m)) → IfOk r (λ h. count (tree h) < 2 ^ 50)
+small kind m few (Ok h) exact is = subst (λ g. count g < 2 ^ 50) (sym exact) (root_small IsSimplified kind m is few)
+small kind m few (Err e) exact is = tt
 
--- the negation of a formula of the method
-pub negation_fine : (m n : Formula) → IsFine m → n ≡ negated m → IsFine n
-negation_fine m n fine same = subst IsFine (sym same) (negated_fine m fine)
-
-pub negation_small : (m n : Formula) → count m < 2 ^ 50 → n ≡ negated m → count n < 2 ^ 50
-negation_small m n few same = subst (λ k. k < 2 ^ 50) (sym (ap count same)) (subst (λ k. k < 2 ^ 50) (sym (count_negated m)) few)
+-- the negation of a plain formula
+pub negation_plain : (m : Formula) → IsPlain m → IsPlain (negated m)
+negation_plain m plain = negated_plain (λ p. Unit {0}) m plain

@@ -3,11 +3,9 @@ use Rattle.std.specs.Prelude.{ℕ, ◌≡◌, List, map, Result, Ok, Err}
 use Rattle.qe_form.specs.Formula.{Formula}
 use Rattle.qe_form.specs.Tree.{tree}
 use Rattle.qe_form.specs.declared.form.Form.{Form}
-use Rattle.qe_simp.specs.Simplified.{simplified}
 use Rattle.qe_norm.specs.declared.prenex.Kind as norm
 use Rattle.qe_norm.specs.declared.prenex.Kind.TheVariants as kind
 use Rattle.qe_norm.specs.declared.prenex.Block as normal_form
-use Rattle.qe_tree.specs.Sound.{IsFine}
 use Rattle.qe_tree.specs.Block.{Quantifier, exists, for_all, Block, given, stopped, block_over, eliminated, EachBlock, AtBlock, Fits, IsWithin, IsBeyond}
 use Rattle.qe_node.specs.Successors.{expansion}
 use Rattle.qe_elim.specs.Search.{steps_of}
@@ -27,10 +25,6 @@ blocks_of bs = map block_of bs
 
 -- ---- a block
 
--- the formula is the simplified form of one that the method works on
-abbrev pub IsRoot : Formula → Type 0
-IsRoot f = (m : Formula) × (IsFine m × (f ≡ simplified m))
-
 -- What the block with the number n gives over a matrix: a form, and its tree has a true leaf or at most the limit's number of distinct
 -- nodes; or its first node that fails, and the tree has at most that number; or the limit, where the tree has more.
 abbrev pub IsBlock : ℕ → ℕ → Block → Formula → Result Form ElimStop → Type 0
@@ -41,13 +35,18 @@ IsBlock limit n b m (Err stop.OutOfMemory) = Unit {0}
 
 -- ---- all blocks
 
--- A form is what elimination gives, and each block's tree has a true leaf or at most the limit's number of distinct nodes. A failing
--- node is the first of its block, the innermost that stops, whose tree has at most that number. The limit is met only where a
--- block's tree has more, and the blocks further in give its matrix. Want of memory may come in place of each.
+-- A form is what elimination gives, and each block's tree has a True leaf or at most the limit's number of
+-- distinct nodes. A failing node is the first of its block, whose tree has at most that number; the limit
+-- is met at a block whose tree has more. In both cases the blocks further in give that block's matrix, and
+-- the tree of each of them has a True leaf or at most that number. Want of memory may come in place of each.
 abbrev pub IsAnswer : ℕ → List Block → Formula → Result Outcome ElimStop → Type 0
 IsAnswer limit bs m (Ok outcome) = (eliminated expansion bs m ≡ given (tree outcome.form)) × EachBlock expansion (Fits expansion limit) 1 bs m
-IsAnswer limit bs m (Err (stop.Node k path s)) = (eliminated expansion bs m ≡ stopped k (steps_of path.items) s) × AtBlock expansion (IsWithin expansion limit) k 1 bs m
-IsAnswer limit bs m (Err (stop.NodeLimit k most)) = (most ≡ limit) × AtBlock expansion (IsBeyond expansion limit) k 1 bs m
+IsAnswer limit bs m (Err (stop.Node k path s)) =
+    (eliminated expansion bs m ≡ stopped k (steps_of path.items) s)
+    × AtBlock expansion (IsWithin expansion limit) (Fits expansion limit) k 1 bs m
+IsAnswer limit bs m (Err (stop.NodeLimit k most)) =
+    (most ≡ limit)
+    × AtBlock expansion (IsBeyond expansion limit) (Fits expansion limit) k 1 bs m
 IsAnswer limit bs m (Err stop.OutOfMemory) = Unit {0}
 
 -- the answer is not the limit

@@ -3,10 +3,11 @@
 ghost use Rattle.std.specs.Prelude.{◌≡◌, ◌≢◌, ◌≤◌, ◌<◌, ◌^◌, length, map, AllPairs, IfOk};
 ghost use Rattle.qe_form.specs.Tree.{tree};
 ghost use Rattle.qe_form.specs.Measures.{count};
-ghost use Rattle.qe_form.specs.Plain.{IsPlainAndProper};
+ghost use Rattle.qe_form.specs.Plain.{IsPlain};
+ghost use Rattle.qe_simp.specs.Shape.{IsSimplified};
 ghost use Rattle.qe_tree.specs.Block as spec;
-ghost use Rattle.qe_tree.specs.Sound.{IsFine};
-ghost use Rattle.qe_elim.specs.Answer.{quantifier_of, block_of, IsRoot, IsBlock};
+ghost use Rattle.qe_tree.specs.Sound.{IsReady};
+ghost use Rattle.qe_elim.specs.Answer.{quantifier_of, block_of, IsBlock};
 
 use crate::OutOfMemory;
 use crate::eliminate::ElimStop;
@@ -18,11 +19,11 @@ use std::alloc::Global;
 
 /// The formula at the root of the block's tree: the simplified matrix, which is negated first for `all`.
 fn root_of(alloc: Global, kind: Kind, matrix: Form) -> Result<Form, OutOfMemory>
-    requires fine { IsFine (tree matrix) }
+    requires plain { IsPlain (tree matrix) }
     requires small { count (tree matrix) < 2 ^ 50 }
     ensures exact { IfOk result (λ f. tree f ≡ spec.root (quantifier_of kind) (tree matrix)) }
-    ensures root { IfOk result (λ f. IsRoot (tree f)) }
-    ensures proper { IfOk result (λ f. IsPlainAndProper (tree f)) }
+    ensures simplified { IfOk result (λ f. IsSimplified (tree f)) }
+    ensures ready { IfOk result (λ _. IsReady IsSimplified (spec.opened (quantifier_of kind) (tree matrix))) }
     ensures small { IfOk result (λ f. count (tree f) < 2 ^ 50) }
 {
     match kind {
@@ -51,9 +52,10 @@ pub fn eliminate_block(
 ) -> Result<Form, ElimStop>
     requires distinct { AllPairs (λ x y. x ≢ y) (map (λ v. v.0) block.now.vars) }
     requires short { length block.now.vars ≤ 65536 }
-    requires fine { IsFine (tree matrix) }
+    requires plain { IsPlain (tree matrix) }
     requires small { count (tree matrix) < 2 ^ 50 }
-    ensures { IsBlock limit number (block_of block.now) (tree matrix) result }
+    ensures answer { IsBlock limit number (block_of block.now) (tree matrix) result }
+    ensures ready { IfOk result (λ _. IsReady IsSimplified (spec.opened (quantifier_of block.now.kind) (tree matrix))) }
 {
     let root = root_of(alloc, block.kind, matrix)?;
     match search(alloc, block.vars.items(), root, limit) {

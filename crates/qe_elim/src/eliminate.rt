@@ -6,15 +6,13 @@ ghost use Rattle.qe_form.specs.Tree.{tree};
 ghost use Rattle.qe_form.specs.Measures.{count};
 ghost use Rattle.qe_form.specs.Plain.{IsPlain};
 ghost use Rattle.qe_form.specs.Same.{Same, HasNoQuantifier};
-ghost use Rattle.qe_norm.specs.Prenex.{IsWellNumbered, stands_for};
+ghost use Rattle.qe_norm.specs.Prenex.{stands_for};
 ghost use Rattle.qe_norm.specs.Blocks.{variables};
-ghost use Rattle.qe_tree.specs.Sound.{IsFine};
 ghost use Rattle.qe_tree.specs.Block.{EachBlock, IsWithin};
 ghost use Rattle.qe_node.specs.Successors.{expansion};
 ghost use Rattle.qe_elim.specs.Answer.{blocks_of, IsAnswer, IsNoLimit};
 
 use crate::block::eliminate_block;
-use crate::fine::look_at;
 use crate::step::Step;
 use qe_form::Form;
 use qe_node::NodeStop;
@@ -61,9 +59,11 @@ fn eliminate_blocks(alloc: Global, prenex: &Prenex, limit: u32) -> Result<Outcom
     requires distinct { IsDistinct nat_eq (variables prenex.now.blocks.items) }
     requires few { length prenex.now.blocks.items < 2 ^ 32 - 1 }
     requires short { All (λ b. length b.vars ≤ 65536) prenex.now.blocks.items }
-    requires fine { IsFine (tree prenex.now.matrix) }
-    requires small { count (tree prenex.now.matrix) ≤ 65536 }
-    ensures { IsAnswer limit (blocks_of prenex.now.blocks.items) (tree prenex.now.matrix) result }
+    requires plain { IsPlain (tree prenex.now.matrix) }
+    requires small { count (tree prenex.now.matrix) < 2 ^ 50 }
+    ensures answer { IsAnswer limit (blocks_of prenex.now.blocks.items) (tree prenex.now.matrix) result }
+    ensures same { IfOk result (λ o. Same (stands_for prenex.now) (tree o.form)) }
+    ensures plain { IfOk result (λ o. IsPlain (tree o.form)) }
 {
     let mut form = prenex.matrix.copy(alloc)?;
     let mut left = prenex.blocks.len();
@@ -85,11 +85,14 @@ fn eliminate_blocks(alloc: Global, prenex: &Prenex, limit: u32) -> Result<Outcom
 /// over nodes that fail.
 ///
 /// `Node` comes where no leaf of the block is True and a node fails. `NodeLimit` comes where one more distinct node would pass
-/// the limit and none that was visited is a True leaf. The method is that of Loos and Weispfenning 1993 and of Weispfenning 1997.
+/// the limit and none that was visited is a True leaf. Either is told of the innermost block where it comes. The method is that
+/// of Loos and Weispfenning 1993 and of Weispfenning 1997.
 pub fn eliminate_alone(alloc: Global, prenex: &Prenex, limit: u32) -> Result<Outcome, ElimStop>
-    requires numbered { IsWellNumbered prenex.now }
+    requires distinct { IsDistinct nat_eq (variables prenex.now.blocks.items) }
+    requires few { length prenex.now.blocks.items < 2 ^ 32 - 1 }
+    requires short { All (λ b. length b.vars ≤ 65536) prenex.now.blocks.items }
     requires plain { IsPlain (tree prenex.now.matrix) }
-    requires small { count (tree prenex.now.matrix) ≤ 65536 }
+    requires small { count (tree prenex.now.matrix) < 2 ^ 50 }
     requires some { 1 ≤ limit }
     ensures answer { IsAnswer limit (blocks_of prenex.now.blocks.items) (tree prenex.now.matrix) result }
     ensures complete { EachBlock expansion (IsWithin expansion limit) 1 (blocks_of prenex.now.blocks.items) (tree prenex.now.matrix) → IsNoLimit result }
@@ -97,6 +100,5 @@ pub fn eliminate_alone(alloc: Global, prenex: &Prenex, limit: u32) -> Result<Out
     ensures plain { IfOk result (λ o. IsPlain (tree o.form)) }
     ensures no_quantifier { IfOk result (λ o. HasNoQuantifier (tree o.form)) }
 {
-    look_at(&prenex.matrix);
     eliminate_blocks(alloc, prenex, limit)
 }

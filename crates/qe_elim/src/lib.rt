@@ -4,7 +4,6 @@
 
 mod block;
 mod eliminate;
-mod fine;
 mod search;
 mod step;
 

@@ -6,8 +6,7 @@ ghost use Rattle.qe_form.specs.Tree.{tree};
 ghost use Rattle.qe_tree.specs.Tree.{is_among};
 ghost use Rattle.qe_tree.specs.Tree as spec;
 ghost use Rattle.qe_form.specs.Measures.{count};
-ghost use Rattle.qe_form.specs.Plain.{IsPlainAndProper};
-ghost use Rattle.qe_elim.specs.Answer.{IsRoot};
+ghost use Rattle.qe_simp.specs.Shape.{IsSimplified};
 ghost use Rattle.qe_elim.specs.Search.{steps_of, fault_of, entry_of, entries, entry_below, IsGrowth, leaf_of, failure_at, entries_below, or_else, state_of, visited, IsTurn, IsEnd};
 
 use crate::OutOfMemory;
@@ -206,8 +205,7 @@ fn turn(
 pub fn search(alloc: Global, vars: &[Var], form: Form, limit: u32) -> Result<Ended, SearchStop>
     requires distinct { AllPairs (λ x y. x ≢ y) (map (λ v. v.0) vars.now) }
     requires short { length vars.now ≤ 65536 }
-    requires root { IsRoot (tree form) }
-    requires proper { IsPlainAndProper (tree form) }
+    requires simplified { IsSimplified (tree form) }
     requires small { count (tree form) < 2 ^ 50 }
     ensures { IsEnd (map (λ v. v.0) vars.now) (tree form) limit result }
 {

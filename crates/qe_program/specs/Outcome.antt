@@ -32,9 +32,12 @@ EachFits limit f names = EachBlock expansion (Fits expansion limit) 1 (blocks f 
 abbrev pub EachIsWithin : ℕ → Formula → List Letters → Type 0
 EachIsWithin limit f names = EachBlock expansion (IsWithin expansion limit) 1 (blocks f names) (matrix f names)
 
--- the blocks further in than this one give its matrix, and its tree has no more distinct nodes than the limit, or more
+-- The blocks further in than this one give its matrix, and the tree of each of them has a leaf that is True,
+-- or no more distinct nodes than the limit; its own tree has no more, or more.
 abbrev pub BlockIsWithin : ℕ → Formula → List Letters → ℕ → Type 0
-BlockIsWithin limit f names k = AtBlock expansion (IsWithin expansion limit) k 1 (blocks f names) (matrix f names)
+BlockIsWithin limit f names k =
+    AtBlock expansion (IsWithin expansion limit) (Fits expansion limit) k 1 (blocks f names) (matrix f names)
 
 abbrev pub BlockIsBeyond : ℕ → Formula → List Letters → ℕ → Type 0
-BlockIsBeyond limit f names k = AtBlock expansion (IsBeyond expansion limit) k 1 (blocks f names) (matrix f names)
+BlockIsBeyond limit f names k =
+    AtBlock expansion (IsBeyond expansion limit) (Fits expansion limit) k 1 (blocks f names) (matrix f names)

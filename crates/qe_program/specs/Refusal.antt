@@ -38,14 +38,16 @@ pub record HasAnswer (limit : ℕ) (f : Formula) (names : List Letters) : Type 0
   pub is_given : outcome f names ≡ given answer
   pub within : EachIsWithin limit f names
 
--- elimination stops in this block, where this is the first node that fails, and why; the blocks further in gave formulas, and the block has no more nodes than the limit
+-- Elimination stops in this block, where this is the first node that fails, and why. The blocks further in
+-- gave formulas, each by a True leaf or with no more nodes than the limit; and this block has no more.
 pub record HasFailingNode (limit : ℕ) (f : Formula) (names all : List Letters) (block : ℕ) (path : List Step) (why : NodeStop) : Type 0 where
   pub small : IsSmall f
   pub all_are : all ≡ all_names f names
   pub stops : outcome f names ≡ stopped block path why
   pub within : BlockIsWithin limit f names block
 
--- this block has more nodes than the limit; the blocks further in gave formulas
+-- This block has more nodes than the limit. The blocks further in gave formulas, each by a True leaf or with
+-- no more nodes than the limit.
 pub record HasLargeTree (limit : ℕ) (f : Formula) (names : List Letters) (block most : ℕ) : Type 0 where
   pub small : IsSmall f
   pub most_is : most ≡ limit

@@ -48,13 +48,13 @@ pub record RepliesByNode (limit : ℕ) (bs : List Block) (m : Formula) (all : Li
   pub path : List Step
   pub why : NodeStop
   pub stops : eliminated expansion bs m ≡ stopped block path why
-  pub within : AtBlock expansion (tree_of.IsWithin expansion limit) block 1 bs m
+  pub within : AtBlock expansion (tree_of.IsWithin expansion limit) (Fits expansion limit) block 1 bs m
   pub says : Says (stop_status why) (node_line all block path why) reply
 
 -- the reply names a block that has more nodes than the limit
 pub record RepliesByLimit (limit : ℕ) (bs : List Block) (m : Formula) (reply : Reply) : Type 0 where
   pub block : ℕ
-  pub beyond : AtBlock expansion (tree_of.IsBeyond expansion limit) block 1 bs m
+  pub beyond : AtBlock expansion (tree_of.IsBeyond expansion limit) (Fits expansion limit) block 1 bs m
   pub not_within : EachBlock expansion (tree_of.IsWithin expansion limit) 1 bs m → ⊥
   pub says : Says status.NodeLimit (node_limit_line block limit) reply
 

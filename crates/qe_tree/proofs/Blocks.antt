@@ -14,8 +14,8 @@ use Rattle.qe_simp.specs.Simplified.{simplified}
 use Rattle.qe_tree.specs.Variables.{remaining, under_ex, under_all}
 use Rattle.qe_tree.specs.Expanded.{Expansion}
 use Rattle.qe_tree.specs.Tree.{Step, Place, Inner, form, node, is_empty, is_leaf, places, nodes, leaves, first_failure, has_true_leaf, or_form, inner}
-use Rattle.qe_tree.specs.Sound.{IsIn, Each, IsFine, IsSound}
-use Rattle.qe_tree.specs.Block.{Quantifier, exists, for_all, Block, quantified_by, prenex, root, closed, Eliminated, given, stopped, of_inner, block_over, eliminated_from, eliminated}
+use Rattle.qe_tree.specs.Sound.{IsIn, Each, IsFine, IsReady, IsSound}
+use Rattle.qe_tree.specs.Block.{Quantifier, exists, for_all, Block, quantified_by, prenex, opened, root, closed, Eliminated, given, stopped, of_inner, block_over, eliminated_from, eliminated}
 use Rattle.qe_tree.proofs.Occurs.{is_left}
 use Rattle.qe_tree.proofs.Quantified.{whole_is}
 use Rattle.qe_tree.proofs.Growth.{fine_no_quantifier}
@@ -35,6 +35,9 @@ module _ {F : Type 0} (Good : Formula → Type 0) (expand : Expansion F) (sound 
 
   simplified_stands : (f : Formula) → IsFine f → Stands f (simplified f)
   simplified_stands f fine = keeps_stands f (simplified f) (sound.keeps f fine)
+
+  pub fine_ready : (f : Formula) → IsFine f → IsReady Good f
+  fine_ready f fine = record { good = sound.good f fine; keeps = sound.keeps f fine }
 
   module _ (vars : List ℕ) (f : Formula) (good : Good f) where
     abbrev all_places : List Place
@@ -139,18 +142,22 @@ module _ {F : Type 0} (Good : Formula → Type 0) (expand : Expansion F) (sound 
 
   -- ---- blocks
 
-  -- what the block gives over a matrix
-  block_stands : (kind : Quantifier) (vars : List ℕ) (m h : Formula) → IsFine m → inner expand vars (root kind m) ≡ form h → StandsFine (quantified_by kind vars m) (closed kind h)
-  block_stands exists vars m h fine is =
-      let w = inner_stands vars (simplified m) (sound.good m fine) h is in
+  opened_fine : (kind : Quantifier) (m : Formula) → IsFine m → IsFine (opened kind m)
+  opened_fine exists m fine = fine
+  opened_fine for_all m fine = negated_fine m fine
+
+  -- what the tree of the block gives over a matrix
+  tree_stands : (kind : Quantifier) (vars : List ℕ) (m h : Formula) → IsReady Good (opened kind m) → inner expand vars (root kind m) ≡ form h → StandsFine (quantified_by kind vars m) (closed kind h)
+  tree_stands exists vars m h ready is =
+      let w = inner_stands vars (simplified m) ready.good h is in
       record {
         fine = w.fine;
-        stands = then_stands (under_ex vars m) (under_ex vars (simplified m)) h (stands_under_ex vars m (simplified m) (simplified_stands m fine)) w.stands;
+        stands = then_stands (under_ex vars m) (under_ex vars (simplified m)) h (stands_under_ex vars m (simplified m) (keeps_stands m (simplified m) ready.keeps)) w.stands;
       }
-  block_stands for_all vars m h fine is =
-      let negation = negated_fine m fine in
-      let w = inner_stands vars (simplified (negated m)) (sound.good (negated m) negation) h is in
-      let ex = then_stands (under_ex vars (negated m)) (under_ex vars (simplified (negated m))) h (stands_under_ex vars (negated m) (simplified (negated m)) (simplified_stands (negated m) negation)) w.stands in
+  tree_stands for_all vars m h ready is =
+      let w = inner_stands vars (simplified (negated m)) ready.good h is in
+      let root_stands = keeps_stands (negated m) (simplified (negated m)) ready.keeps in
+      let ex = then_stands (under_ex vars (negated m)) (under_ex vars (simplified (negated m))) h (stands_under_ex vars (negated m) (simplified (negated m)) root_stands) w.stands in
       let closed_fine = negated_fine h w.fine in
       record {
         fine = simplified_fine (negated h) closed_fine;
@@ -161,22 +168,27 @@ module _ {F : Type 0} (Good : Formula → Type 0) (expand : Expansion F) (sound 
   under_quantifiers exists vars f g s = stands_under_ex vars f g s
   under_quantifiers for_all vars f g s = stands_under_all vars f g s
 
-  over_block : (b : Block) (n : ℕ) (f g : Formula) (e : Eliminated F) → ((m : Formula) → e ≡ given m → StandsFine f m) → block_over expand b n e ≡ given g → StandsFine (quantified_by b.kind b.vars f) g
-  over_block b n f g (given m) further = by_inner (inner expand b.vars (root b.kind m)) refl
+  -- what the block gives over a matrix that stands for f
+  pub block_stands : (b : Block) (n : ℕ) (f m g : Formula) → Stands f m → IsReady Good (opened b.kind m) → block_over expand b n (given m) ≡ given g → StandsFine (quantified_by b.kind b.vars f) g
+  block_stands b n f m g s ready = by_inner (inner expand b.vars (root b.kind m)) refl
     where
       by_inner : (i : Inner F) → inner expand b.vars (root b.kind m) ≡ i → of_inner expand b.kind n i ≡ given g → StandsFine (quantified_by b.kind b.vars f) g
       by_inner (form h) is gives =
-          let w = further m refl in
-          let v = block_stands b.kind b.vars m h w.fine is in
+          let w = tree_stands b.kind b.vars m h ready is in
           let same : closed b.kind h ≡ g = cc in
           subst (StandsFine (quantified_by b.kind b.vars f)) same (record {
-            fine = v.fine;
-            stands = then_stands (quantified_by b.kind b.vars f) (quantified_by b.kind b.vars m) (closed b.kind h) (under_quantifiers b.kind b.vars f m w.stands) v.stands;
+            fine = w.fine;
+            stands = then_stands (quantified_by b.kind b.vars f) (quantified_by b.kind b.vars m) (closed b.kind h) (under_quantifiers b.kind b.vars f m s) w.stands;
           })
       by_inner (node path s) is gives = absurd (cc)
-  over_block b n f g (stopped k path s) further = λ gives. absurd (cc)
 
-  pub from_stands : (n : ℕ) (bs : List Block) (m g : Formula) → IsFine m → eliminated_from expand n bs m ≡ given g → StandsFine (prenex bs m) g
+  over_block : (b : Block) (n : ℕ) (f g : Formula) (e : Eliminated F) → ((m : Formula) → e ≡ given m → StandsFine f m) → block_over expand b n e ≡ given g → StandsFine (quantified_by b.kind b.vars f) g
+  over_block b n f g (given m) further gives =
+      let w = further m refl in
+      block_stands b n f m g w.stands (fine_ready (opened b.kind m) (opened_fine b.kind m w.fine)) gives
+  over_block b n f g (stopped k path s) further gives = absurd (cc)
+
+  from_stands : (n : ℕ) (bs : List Block) (m g : Formula) → IsFine m → eliminated_from expand n bs m ≡ given g → StandsFine (prenex bs m) g
   from_stands n [] m g fine is = let same : m ≡ g = cc in subst (StandsFine m) same (record { fine = fine; stands = stands_itself m })
   from_stands n (b ∷ bs) m g fine is = over_block b n (prenex bs m) g (eliminated_from expand (suc n) bs m) (λ h e. from_stands (suc n) bs m h fine e) is
 

@@ -1,12 +1,8 @@
 -- What one more place adds to the leaves, the first failure and the True leaves among places.
-use Rattle.std.proofs.Common.{◌≡◌, ◌∙◌, sym, ap, refl, Bool, true, false, cond, ◌||◌, List, [], ◌∷◌, ◌++◌, map, filter, Option, Some, None, ℕ}
-use Rattle.std.specs.List.{list_any}
+use Rattle.std.proofs.Common.{◌≡◌, ap, refl, Bool, true, false, cond, ◌||◌, List, [], ◌∷◌, ◌++◌, Option, Some, None, ℕ}
 use Rattle.qe_form.specs.Formula.{Formula}
 use Rattle.qe_tree.specs.Expanded.{Expansion}
-use Rattle.qe_tree.specs.Tree.{Step, Place, Inner, form, is_true, is_leaf, failure, nodes, leaves, or_fails, first_failure, has_true_leaf, inner_of, inner, or_form}
-use Rattle.qe_simp.specs.Simplified.{simplified}
-use Rattle.qe_form.specs.Formula as formula
-use Rattle.qe_form.specs.Tree.{trees_of}
+use Rattle.qe_tree.specs.Tree.{Step, Place, is_true, is_leaf, failure, leaves, or_fails, first_failure, has_true_leaf}
 
 module _ {F : Type 0} (expand : Expansion F) (vars : List ℕ) where
   abbrev pub one_leaf : Place → List Formula

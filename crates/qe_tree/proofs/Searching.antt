@@ -1,15 +1,14 @@
 -- The search through a tree, depth first, that passes over formulas it has met: it comes by the first places of all formulas, in their order.
-use Rattle.std.proofs.Common.{ℕ, zero, suc, ◌≡◌, ◌≢◌, ◌∙◌, sym, ap, refl, subst, ◌<◌, ◌≤◌, ◌+◌, inl, inr, ◌⊎◌, Bool, true, false, cond, ◌||◌, nat_lt, List, [], ◌∷◌, ◌++◌, append_assoc, append-nil, map, length, length-append, arith}
-use Rattle.std.specs.List.{flat_map, list_any}
+use Rattle.std.proofs.Common.{ℕ, zero, suc, ◌≡◌, ◌∙◌, sym, ap, refl, subst, ◌<◌, ◌≤◌, inl, inr, ◌⊎◌, Bool, true, false, cond, ◌||◌, nat_lt, List, [], ◌∷◌, ◌++◌, append_assoc, append-nil, map, length, length-append, arith}
+use Rattle.std.specs.List.{flat_map}
 use Rattle.std.specs.Ordering.{is_eq}
 use Rattle.std.specs.Cmp.{eq_by_cmp_equiv}
 use Rattle.std.proofs.lemmas.Bool.Decides.{nat_tests}
 use Rattle.qe_form.specs.Formula.{Formula}
 use Rattle.qe_form.specs.Order.{formula_cmp}
 use Rattle.qe_form.specs.OrderLaws.{formula_total}
-use Rattle.qe_tree.specs.Variables.{remaining}
 use Rattle.qe_tree.specs.Expanded.{Expansion}
-use Rattle.qe_tree.specs.Tree.{Step, Place, below, walk, places, is_among, first_places, nodes}
+use Rattle.qe_tree.specs.Tree.{Step, Place, below, walk, is_among, first_places, nodes}
 use Rattle.qe_tree.specs.Sound.{IsIn, Each, IsSound}
 use Rattle.qe_tree.proofs.Walks.{IsBelow, all_below, left_of, from, from_each, from_is}
 use Rattle.qe_tree.proofs.FirstPlaces.{among_in}

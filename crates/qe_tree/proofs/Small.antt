@@ -1,5 +1,5 @@
 -- How large the formula is that a block gives.
-use Rattle.std.proofs.Common.{ℕ, zero, suc, ◌≡◌, ◌∙◌, sym, ap, refl, subst, ◌+◌, ◌*◌, ◌^◌, ◌<◌, ◌≤◌, max, inl, inr, ◌⊎◌, Bool, true, false, cond, List, [], ◌∷◌, ◌++◌, length, Option, Some, None, arith}
+use Rattle.std.proofs.Common.{ℕ, zero, suc, ◌≡◌, sym, ap, refl, subst, ◌+◌, ◌*◌, ◌^◌, ◌<◌, ◌≤◌, max, inl, inr, ◌⊎◌, Bool, true, false, cond, List, [], ◌∷◌, ◌++◌, length, Option, Some, None, arith}
 use Rattle.std.specs.Prelude.{IsTrue}
 use Rattle.std.specs.List.{flat_map}
 use Rattle.qe_form.specs.Formula.{Formula, Formulas, True, False, Atom, And, Or, Not, Implies, Iff, Ex, All, no_more, more}
@@ -10,15 +10,15 @@ use Rattle.qe_simp.specs.Simplified.{simplified}
 use Rattle.qe_tree.specs.Variables.{remaining}
 use Rattle.qe_tree.specs.Expanded.{Expansion}
 use Rattle.qe_tree.specs.Tree.{Step, Place, Inner, form, node, is_empty, unless_leaf, grown, is_leaf, below, walk, places, first_places, nodes, leaves, first_failure, has_true_leaf, or_form, inner}
-use Rattle.qe_tree.specs.Sound.{Each, IsFine, IsSound}
-use Rattle.qe_tree.specs.Block.{Quantifier, exists, for_all, Block, root, closed, given, stopped, of_inner, block_over, Fits}
+use Rattle.qe_tree.specs.Sound.{Each, IsFine, IsReady, IsSound}
+use Rattle.qe_tree.specs.Block.{Quantifier, exists, for_all, Block, opened, root, closed, given, of_inner, block_over, Fits}
 use Rattle.qe_tree.proofs.Stands.{negated_fine}
 use Rattle.qe_tree.proofs.Walks.{EachForm, EachForm-append, IsBelow, all_below, each_walk}
 use Rattle.qe_tree.proofs.FirstPlaces.{each_firsts}
-use Rattle.qe_tree.proofs.Blocks.{joined_fine, inner_stands}
+use Rattle.qe_tree.proofs.Blocks.{fine_ready, joined_fine, inner_stands}
 
 mutual
-  pub count_negated : (f : Formula) → count (negated f) ≡ count f
+  count_negated : (f : Formula) → count (negated f) ≡ count f
   count_negated True = refl
   count_negated False = refl
   count_negated (Atom a) = refl
@@ -33,6 +33,17 @@ mutual
   count_negated_each : (fs : Formulas) → count_each (negated_each fs) ≡ count_each fs
   count_negated_each no_more = refl
   count_negated_each (more f fs) = λ i. count_negated f i + count_negated_each fs i
+
+-- simplifying makes no formula large
+pub ready_small : (Good : Formula → Type 0) (f : Formula) → IsReady Good f → count f < 2 ^ 50 → count (simplified f) < 2 ^ 50
+ready_small Good f ready small = let size = ready.keeps.size in omega arith
+
+opened_small : (kind : Quantifier) (m : Formula) → count m < 2 ^ 50 → count (opened kind m) < 2 ^ 50
+opened_small exists m small = small
+opened_small for_all m small = subst (λ n. n < 2 ^ 50) (sym (count_negated m)) small
+
+pub root_small : (Good : Formula → Type 0) (kind : Quantifier) (m : Formula) → IsReady Good (opened kind m) → count m < 2 ^ 50 → count (root kind m) < 2 ^ 50
+root_small Good kind m ready small = ready_small Good (opened kind m) ready (opened_small kind m small)
 
 module _ {F : Type 0} (Good : Formula → Type 0) (expand : Expansion F) (sound : IsSound Good expand) (vars : List ℕ) where
   abbrev Small : Formula → Type 0
@@ -116,30 +127,17 @@ module _ {F : Type 0} (Good : Formula → Type 0) (expand : Expansion F) (sound 
       by_leaf false test is (inr most) few small = by_failure (first_failure expand vars (nodes expand vars f)) is most few small
 
 module _ {F : Type 0} (Good : Formula → Type 0) (expand : Expansion F) (sound : IsSound Good expand) where
-  -- simplifying makes no formula large
-  pub simplified_small : (f : Formula) → IsFine f → count f < 2 ^ 50 → count (simplified f) < 2 ^ 50
-  simplified_small f fine small = let size = (sound.keeps f fine).size in omega arith
-
-  pub root_small : (kind : Quantifier) (m : Formula) → IsFine m → count m < 2 ^ 50 → count (root kind m) < 2 ^ 50
-  root_small exists m fine small = simplified_small m fine small
-  root_small for_all m fine small = simplified_small (negated m) (negated_fine m fine) (subst (λ n. n < 2 ^ 50) (sym (count_negated m)) small)
-
-  pub root_good : (kind : Quantifier) (m : Formula) → IsFine m → Good (root kind m)
-  root_good exists m fine = sound.good m fine
-  root_good for_all m fine = sound.good (negated m) (negated_fine m fine)
-
   closed_small : (kind : Quantifier) (h : Formula) → IsFine h → count h < 2 ^ 50 → count (closed kind h) < 2 ^ 50
   closed_small exists h fine small = small
-  closed_small for_all h fine small = simplified_small (negated h) (negated_fine h fine) (subst (λ n. n < 2 ^ 50) (sym (count_negated h)) small)
+  closed_small for_all h fine small = ready_small Good (negated h) (fine_ready Good expand sound (negated h) (negated_fine h fine)) (opened_small for_all h small)
 
   -- the formula that a block gives
-  pub block_small : (b : Block) (n : ℕ) (m g : Formula) (limit : ℕ) → IsFine m → block_over expand b n (given m) ≡ given g → Fits expand limit b m → limit < 2 ^ 32 → count m < 2 ^ 50 → count g < 2 ^ 50
-  block_small b n m g limit fine = by_inner (inner expand b.vars (root b.kind m)) refl
+  pub block_small : (b : Block) (n : ℕ) (m g : Formula) (limit : ℕ) → IsReady Good (opened b.kind m) → block_over expand b n (given m) ≡ given g → Fits expand limit b m → limit < 2 ^ 32 → count m < 2 ^ 50 → count g < 2 ^ 50
+  block_small b n m g limit ready = by_inner (inner expand b.vars (root b.kind m)) refl
     where
       by_inner : (i : Inner F) → inner expand b.vars (root b.kind m) ≡ i → of_inner expand b.kind n i ≡ given g → Fits expand limit b m → limit < 2 ^ 32 → count m < 2 ^ 50 → count g < 2 ^ 50
       by_inner (form h) is gives fits few small =
-          let good = root_good b.kind m fine in
           let same : closed b.kind h ≡ g = cc in
-          subst (λ k. count k < 2 ^ 50) same (closed_small b.kind h (inner_stands Good expand sound b.vars (root b.kind m) good h is).fine
-          (inner_small Good expand sound b.vars (root b.kind m) good h limit is fits few (root_small b.kind m fine small)))
+          subst (λ k. count k < 2 ^ 50) same (closed_small b.kind h (inner_stands Good expand sound b.vars (root b.kind m) ready.good h is).fine
+          (inner_small Good expand sound b.vars (root b.kind m) ready.good h limit is fits few (root_small Good b.kind m ready small)))
       by_inner (node path s) is gives fits few small = absurd (cc)

@@ -1,11 +1,11 @@
 -- A formula that stands for another at every point, and what stands for it under quantifiers and negation.
 use Rattle.std.proofs.Common.{ℕ, inl, inr, ◌↔◌, Bool, true, false, not, List, [], ◌∷◌}
 use Rattle.qe_tower.specs.Point.{Point, IsPoint}
-use Rattle.qe_poly.specs.Polynomial.{IsPolynomial}
+use Rattle.qe_poly.specs.Polynomial.{Polynomial, IsPolynomial}
 use Rattle.qe_form.specs.Formula.{Formula, Formulas, True, False, Atom, And, Or, Not, Implies, Iff, Ex, All, no_more, more}
 use Rattle.qe_form.specs.Truth.{Is}
 use Rattle.qe_form.specs.Same.{IsFree, IsFreeInSome, HasNoQuantifier, Agree, Same}
-use Rattle.qe_form.specs.Plain.{ArePlainWith}
+use Rattle.qe_form.specs.Plain.{IsPlainWith, ArePlainWith}
 use Rattle.qe_form.specs.Negation.{negated, negated_each}
 use Rattle.qe_form.proofs.TwoSides.{never_both, decided}
 use Rattle.qe_form.proofs.Opposites.{negated_opposite}
@@ -114,22 +114,27 @@ stands_negated f g s = record {
   );
 }
 
-mutual
-  pub negated_fine : (f : Formula) → IsFine f → IsFine (negated f)
-  negated_fine True fine = tt
-  negated_fine False fine = tt
-  negated_fine (Atom a) fine = fine
-  negated_fine (And fs) fine = each_negated_fine fs fine
-  negated_fine (Or fs) fine = each_negated_fine fs fine
-  negated_fine (Not f) fine = absurd fine
-  negated_fine (Implies f g) fine = absurd fine
-  negated_fine (Iff f g) fine = absurd fine
-  negated_fine (Ex x f) fine = absurd fine
-  negated_fine (All x f) fine = absurd fine
+-- the negation of a plain formula is plain, over the same polynomials
+module _ (P : Polynomial → Type 0) where
+  mutual
+    pub negated_plain : (f : Formula) → IsPlainWith (λ a. P a.poly) f → IsPlainWith (λ a. P a.poly) (negated f)
+    negated_plain True plain = tt
+    negated_plain False plain = tt
+    negated_plain (Atom a) plain = plain
+    negated_plain (And fs) plain = each_negated_plain fs plain
+    negated_plain (Or fs) plain = each_negated_plain fs plain
+    negated_plain (Not f) plain = absurd plain
+    negated_plain (Implies f g) plain = absurd plain
+    negated_plain (Iff f g) plain = absurd plain
+    negated_plain (Ex x f) plain = absurd plain
+    negated_plain (All x f) plain = absurd plain
 
-  each_negated_fine : (fs : Formulas) → ArePlainWith (λ a. IsPolynomial a.poly) fs → ArePlainWith (λ a. IsPolynomial a.poly) (negated_each fs)
-  each_negated_fine no_more fine = tt
-  each_negated_fine (more f fs) fine = (negated_fine f fine.0, each_negated_fine fs fine.1)
+    each_negated_plain : (fs : Formulas) → ArePlainWith (λ a. P a.poly) fs → ArePlainWith (λ a. P a.poly) (negated_each fs)
+    each_negated_plain no_more plain = tt
+    each_negated_plain (more f fs) plain = (negated_plain f plain.0, each_negated_plain fs plain.1)
+
+pub negated_fine : (f : Formula) → IsFine f → IsFine (negated f)
+negated_fine f fine = negated_plain IsPolynomial f fine
 
 -- each value fits exactly where no value fits the negation
 all_is_ex : (xs : List ℕ) (f : Formula) (p : Point) (b : Bool) → Is (under_all xs f) b p ↔ Is (under_ex xs (negated f)) (not b) p

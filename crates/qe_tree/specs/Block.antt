@@ -25,10 +25,14 @@ abbrev pub prenex : List Block → Formula → Formula
 prenex [] m = m
 prenex (b ∷ bs) m = quantified_by b.kind b.vars (prenex bs m)
 
--- the formula at the root of a block's tree: the simplified matrix, negated first for `all`
+-- the matrix as the block's tree takes it: negated for `all`
+abbrev pub opened : Quantifier → Formula → Formula
+opened exists m = m
+opened for_all m = negated m
+
+-- the formula at the root of a block's tree
 abbrev pub root : Quantifier → Formula → Formula
-root exists m = simplified m
-root for_all m = simplified (negated m)
+root kind m = simplified (opened kind m)
 
 -- what the block gives where its tree gives this formula
 abbrev pub closed : Quantifier → Formula → Formula
@@ -84,7 +88,10 @@ module _ {F : Type 0} (expand : Expansion F) where
   abbrev pub Fits : ℕ → Block → Formula → Type 0
   Fits limit b m = IsTrue (has_true_leaf expand b.vars (nodes expand b.vars (root b.kind m))) ⊎ IsWithin limit b m
 
-  -- P of the block with the number k and its matrix, which the blocks further in give
-  abbrev pub AtBlock : (Block → Formula → Type 0) → ℕ → ℕ → List Block → Formula → Type 0
-  AtBlock P k n [] m = ⊥
-  AtBlock P k n (b ∷ bs) m = ((k ≡ n) × ((g : Formula) × ((eliminated_from (suc n) bs m ≡ given g) × P b g))) ⊎ AtBlock P k (suc n) bs m
+  -- P of the block with the number k and its matrix, which the blocks further in give; and Q of each of
+  -- these and its own matrix
+  abbrev pub AtBlock : (Block → Formula → Type 0) → (Block → Formula → Type 0) → ℕ → ℕ → List Block → Formula → Type 0
+  AtBlock P Q k n [] m = ⊥
+  AtBlock P Q k n (b ∷ bs) m =
+      ((k ≡ n) × (EachBlock Q (suc n) bs m × ((g : Formula) × ((eliminated_from (suc n) bs m ≡ given g) × P b g))))
+      ⊎ AtBlock P Q k (suc n) bs m

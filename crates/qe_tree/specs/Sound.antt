@@ -39,6 +39,11 @@ pub record IsGrown (Good : Formula → Type 0) (vars : List ℕ) (f : Formula) (
   pub small : Each (λ g. count g ≤ 65538) (forms_of parts)
   pub truth : (p : Point) → IsPoint p → Is (Ex x f) true p ↔ Is (Or (trees_of (forms_of parts))) true p
 
+-- simplifying makes of the formula a good one, which keeps what the formula says
+pub record IsReady (Good : Formula → Type 0) (f : Formula) : Type 0 where
+  pub good : Good (simplified f)
+  pub keeps : Keeps f (simplified f)
+
 -- The good formulas are those that come up: simplified ones. The successors of each node are grown from it.
 pub record IsSound {F : Type 0} (Good : Formula → Type 0) (expand : Expansion F) : Type 0 where
   pub fine : (f : Formula) → Good f → IsFine f

@@ -1,19 +1,30 @@
+use Rattle.std.proofs.Common.{◌≡◌, sym, subst, IfOk}
 use Rattle.qe_form.specs.Tree.{tree}
-use Rattle.qe_elim.proofs.Roots.{proper, is_root, small, negation_fine, negation_small}
+use Rattle.qe_form.specs.Plain.{IsPlain}
+use Rattle.qe_form.specs.Negation.{negated}
+use Rattle.qe_simp.specs.Simplified.{simplified}
+use Rattle.qe_simp.specs.Shape.{IsSimplified}
+use Rattle.qe_norm.specs.declared.prenex.Kind.TheVariants as kind
+use Rattle.qe_tree.specs.Block.{for_all, opened}
+use Rattle.qe_tree.specs.Sound.{IsReady}
+use Rattle.qe_elim.specs.Answer.{quantifier_of}
+use Rattle.qe_elim.proofs.Roots.{simple, ready, small, negation_plain}
 use Rattle.qe_elim.proofs.block.root_of.Goals as goal
 
-pub returns-in-Ex-clause-proper : goal.returns-in-Ex-clause-proper
-returns-in-Ex-clause-proper c = proper (tree c.args.matrix) c.requires.fine c.simplify.result c.simplify.ensures.exact
+pub returns-in_ok-negated-in-All-clause-simplified : goal.returns-in_ok-negated-in-All-clause-simplified
+returns-in_ok-negated-in-All-clause-simplified c =
+    simple _ (subst IsPlain (sym c.in_ok-negated-in-All.ensures.exact) (negation_plain (tree c.args.matrix) c.requires.plain)) c.simplify-in-All.result c.simplify-in-All.ensures.plain
 
-pub returns-in_ok-negated-in-All-clause-root : goal.returns-in_ok-negated-in-All-clause-root
-returns-in_ok-negated-in-All-clause-root c =
-    is_root _ (negation_fine (tree c.args.matrix) _ c.requires.fine c.in_ok-negated-in-All.ensures.exact) c.simplify-in-All.result c.simplify-in-All.ensures.exact
-
-pub returns-in_ok-negated-in-All-clause-proper : goal.returns-in_ok-negated-in-All-clause-proper
-returns-in_ok-negated-in-All-clause-proper c =
-    proper _ (negation_fine (tree c.args.matrix) _ c.requires.fine c.in_ok-negated-in-All.ensures.exact) c.simplify-in-All.result c.simplify-in-All.ensures.exact
+pub returns-in_ok-negated-in-All-clause-ready : goal.returns-in_ok-negated-in-All-clause-ready
+returns-in_ok-negated-in-All-clause-ready c =
+    let is : c.args.kind ≡ kind.All = cc in
+    subst (λ k. IfOk c.simplify-in-All.result (λ x. IsReady IsSimplified (opened (quantifier_of k) (tree c.args.matrix)))) (sym is)
+    (ready (negated (tree c.args.matrix)) _ c.in_ok-negated-in-All.ensures.exact (negation_plain (tree c.args.matrix) c.requires.plain) c.simplify-in-All.result
+    c.simplify-in-All.ensures.exact c.simplify-in-All.ensures.kept c.simplify-in-All.ensures.plain)
 
 pub returns-in_ok-negated-in-All-clause-small : goal.returns-in_ok-negated-in-All-clause-small
 returns-in_ok-negated-in-All-clause-small c =
-    small _ (negation_fine (tree c.args.matrix) _ c.requires.fine c.in_ok-negated-in-All.ensures.exact)
-    (negation_small (tree c.args.matrix) _ c.requires.small c.in_ok-negated-in-All.ensures.exact) c.simplify-in-All.result c.simplify-in-All.ensures.exact
+    small for_all (tree c.args.matrix) c.requires.small c.simplify-in-All.result
+    (subst (λ g. IfOk c.simplify-in-All.result (λ h. tree h ≡ simplified g)) c.in_ok-negated-in-All.ensures.exact c.simplify-in-All.ensures.exact)
+    (ready (negated (tree c.args.matrix)) _ c.in_ok-negated-in-All.ensures.exact (negation_plain (tree c.args.matrix) c.requires.plain) c.simplify-in-All.result
+    c.simplify-in-All.ensures.exact c.simplify-in-All.ensures.kept c.simplify-in-All.ensures.plain)

@@ -1,8 +1,12 @@
-use Rattle.std.proofs.Common.{suc, ◌≡◌, ◌∙◌, sym, ap, subst, ◌<◌, ◌+◌, ◌-◌, ◌^◌, Err, arith}
+use Rattle.std.proofs.Common.{suc, ◌≡◌, ◌∙◌, sym, ap, subst, ◌<◌, ◌+◌, ◌-◌, ◌^◌, drop, Err, arith}
 use Rattle.std.proofs.lemmas.Result.{err_from_is_err_and}
 use Rattle.qe_form.specs.Tree.{tree}
+use Rattle.qe_form.specs.Plain.{IsPlain}
+use Rattle.qe_simp.proofs.Shapes.{simplified_is_plain}
+use Rattle.qe_tree.specs.Block.{prenex}
+use Rattle.qe_tree.proofs.Stands.{Stands}
 use Rattle.qe_elim.specs.Answer.{block_of, blocks_of, IsAnswer}
-use Rattle.qe_elim.proofs.Alone.{IsEliminated, block_distinct, block_more, more_small, block_stops, block_at, blocks_at}
+use Rattle.qe_elim.proofs.Alone.{IsEliminated, block_distinct, block_more, more_small, block_stops, block_at, blocks_at, stands_for_blocks}
 use Rattle.qe_elim.proofs.eliminate.eliminate_blocks.Goals as goal
 
 pub eliminate_block-requires-clause-distinct : goal.eliminate_block-requires-clause-distinct
@@ -12,8 +16,8 @@ eliminate_block-requires-clause-distinct c =
     block_distinct c.args.prenex.now.blocks.items (c.loop-left.left - 1) c.index.result.now _
     (block_at c.args.prenex.now.blocks.items (c.loop-left.left - 1) c.index.result.now (omega arith) c.index.ensures) c.requires.distinct
 
-pub returns-in_err-form-2 : goal.returns-in_err-form-2
-returns-in_err-form-2 c =
+pub returns-in_err-form-2-clause-answer : goal.returns-in_err-form-2-clause-answer
+returns-in_err-form-2-clause-answer c =
     let within = c.loop-left.invariant.within in
     let some = c.loop-left-test.true in
     let fits = c.ranges.limit in
@@ -25,10 +29,10 @@ returns-in_err-form-2 c =
     let number : k + 1 ≡ suc k = omega arith in
     let few : c.args.limit < 2 ^ 32 = omega arith in
     subst (λ r. IsAnswer c.args.limit bs m r) (sym (exit.1 ∙ ap Err exit.2))
-    (block_stops m c.requires.fine c.args.limit few bs k (block_of c.index.result.now) _
+    (block_stops m c.args.limit few bs k (block_of c.index.result.now) _
     (blocks_at c.args.prenex.now.blocks.items k c.index.result.now (omega arith) c.index.ensures) (tree c.loop-left.form)
-    (subst (λ n. IsEliminated m c.args.limit bs n (tree c.loop-left.form)) (sym last) c.loop-left.invariant.done) c.loop-left.invariant.small
-    (k + 1) number c.in_err-form-2.field-0.0 c.in_err-form-2.ensures)
+    (subst (λ n. IsEliminated m c.args.limit bs n (tree c.loop-left.form)) (sym last) c.loop-left.invariant.done)
+    (k + 1) number c.in_err-form-2.field-0.0 c.in_err-form-2.ensures.answer)
 
 pub loop-left-preserved : goal.loop-left-preserved
 loop-left-preserved c =
@@ -44,7 +48,18 @@ loop-left-preserved c =
     let at = blocks_at c.args.prenex.now.blocks.items k c.index.result.now (omega arith) c.index.ensures in
     let before = subst (λ n. IsEliminated m c.args.limit bs n (tree c.loop-left.form)) (sym last) c.loop-left.invariant.done in
     record {
-      done = block_more m c.requires.fine c.args.limit few bs k (block_of c.index.result.now) _ at (tree c.loop-left.form) before c.loop-left.invariant.small (k + 1) number c.in_ok-form-2.form c.in_ok-form-2.ensures;
-      small = more_small m c.requires.fine c.args.limit few bs k (block_of c.index.result.now) _ at (tree c.loop-left.form) before c.loop-left.invariant.small (k + 1) c.in_ok-form-2.form c.in_ok-form-2.ensures;
+      done = block_more m c.args.limit few bs k (block_of c.index.result.now) _ at (tree c.loop-left.form) before (k + 1) number c.in_ok-form-2.form c.in_ok-form-2.ensures.answer c.in_ok-form-2.ensures.ready;
+      small = more_small m c.args.limit few bs k (block_of c.index.result.now) _ at (tree c.loop-left.form) before (k + 1) c.in_ok-form-2.form c.in_ok-form-2.ensures.answer c.in_ok-form-2.ensures.ready c.loop-left.invariant.small;
       within = omega arith;
     }
+
+pub returns-then-left-eq0-clause-plain : goal.returns-then-left-eq0-clause-plain
+returns-then-left-eq0-clause-plain c = simplified_is_plain _ (c.in_ok-simplify.ensures.plain (subst IsPlain (sym c.in_ok-form.ensures) c.requires.plain))
+
+pub returns-clause-same : goal.returns-clause-same
+returns-clause-same c =
+    let stops = c.loop-left-test.false in
+    let all : c.loop-left.left ≡ 0 = omega arith in
+    let items = c.args.prenex.now.blocks.items in
+    let m = tree c.args.prenex.now.matrix in
+    stands_for_blocks items m (tree c.loop-left.form) (subst (λ n. Stands (prenex (drop n (blocks_of items)) m) (tree c.loop-left.form)) all c.loop-left.invariant.done.stands)

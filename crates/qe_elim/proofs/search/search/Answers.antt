@@ -1,15 +1,19 @@
 use Rattle.std.proofs.Common.{◌∙◌, sym, ap, refl, subst, map, Ok, Err, arith}
 use Rattle.std.proofs.lemmas.Result.{err_from_is_err_and}
 use Rattle.qe_form.specs.Tree.{tree}
+use Rattle.qe_simp.proofs.Shapes.{simplified_is_proper}
 use Rattle.qe_elim.specs.Search.{entry_of, state_of, IsTurn, IsEnd}
 use Rattle.qe_elim.proofs.Soundness.{Good, sound}
 use Rattle.qe_elim.proofs.Turns.{start_searched, start_waiting, taken_from, less_over, turn_goes_on, turn_finds, turn_ends, turn_shrinks, ended_leaves, ended_failed, no_items}
 use Rattle.qe_elim.proofs.search.search.Goals as goal
 
+pub root-requires-clause-proper : goal.root-requires-clause-proper
+root-requires-clause-proper c = simplified_is_proper (tree c.args.form) c.requires.simplified
+
 pub loop-next-init : goal.loop-next-init
 loop-next-init c =
     start_searched Good sound (map (λ v. v.0) c.args.vars.now) (tree c.args.form) c.args.limit
-    (subst Good (sym c.requires.root.1.1) (sound.good c.requires.root.0 c.requires.root.1.0)) _
+    c.requires.simplified _
     (ap (map tree) c.new.ensures.empty) (ap (map tree) c.new-2.ensures.items) refl
     (start_waiting Good sound (map (λ v. v.0) c.args.vars.now) (record { path = c.new-3.result; node = c.in_ok-node.node }) (tree c.args.form) c.new-3.ensures.items c.in_ok-node.ensures.vars c.in_ok-node.ensures.form
     c.push.new.self.items c.new-waiting.result.items c.in_ok-push.ensures.items c.new-waiting.ensures.items)
