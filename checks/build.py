@@ -1,0 +1,158 @@
+#!/usr/bin/env python3
+"""Proves and builds the program, several crates beside each other, and tells on standard error how far it is.
+
+In one checkout `rt` proves one crate at a time, since it locks a crate with all below it. So each crate is proved in one of a few
+copies of the sources, the lanes: what is proved in one checkout, `rt` hands to the others on the same machine, in the end to this
+one. The crates that the most work waits for go first, and before the others. The lanes of a run that was interrupted stay, and
+the next run goes on where that one was.
+"""
+import hashlib
+import os
+import shutil
+import subprocess
+import sys
+import tempfile
+import threading
+import time
+
+TOP = os.path.dirname(os.path.dirname(os.path.realpath(__file__)))
+PROGRAM = "qe"
+CORES = len(os.sched_getaffinity(0))
+# A check takes up to 5 GB.
+MEMORY = os.sysconf("SC_PAGE_SIZE") * os.sysconf("SC_PHYS_PAGES")
+LANES = max(1, min(CORES, MEMORY // (5 << 30)))
+MARK = hashlib.sha256(TOP.encode()).hexdigest()[:12]
+ROOM = f"{tempfile.gettempdir()}/qe-build-{os.getuid()}-{MARK}"
+
+
+def say(text):
+    print(f"qe: {text}", file=sys.stderr, flush=True)
+
+
+def read_crates():
+    """The crates that the program stands on, and the program, each with those of this repository that it uses."""
+    with open(f"{TOP}/crates.txt", encoding="utf-8") as lines:
+        pairs = [line.split("#")[0].split(":") for line in lines if ":" in line.split("#")[0]]
+    names = {pair[0].split()[0] for pair in pairs}
+    uses = {pair[0].split()[0]: [it for it in pair[1].split() if it in names] for pair in pairs}
+    needed, left = {}, [PROGRAM]
+    while left:
+        name = left.pop()
+        if name not in needed:
+            needed[name] = uses[name]
+            left += uses[name]
+    return needed
+
+
+def sources(folder):
+    """The sources of the repository, and nothing that was built of them."""
+    shutil.copytree(f"{TOP}/crates", f"{folder}/crates", ignore=shutil.ignore_patterns("out"))
+    for name in ("crates.txt", "HANDLES"):
+        shutil.copy(f"{TOP}/{name}", f"{folder}/{name}")
+
+
+def make_lane(number):
+    """A copy of the sources as they are now, over what an earlier run kept there."""
+    lane, new = f"{ROOM}/{number}", f"{ROOM}/{number}.new"
+    shutil.rmtree(new, ignore_errors=True)
+    os.makedirs(new)
+    sources(new)
+    for name in os.listdir(f"{new}/crates"):
+        if os.path.isdir(f"{lane}/crates/{name}/out"):
+            os.rename(f"{lane}/crates/{name}/out", f"{new}/crates/{name}/out")
+    shutil.rmtree(lane, ignore_errors=True)
+    os.rename(new, lane)
+    return lane
+
+
+def size_of(crate):
+    """The bytes of a crate's sources, which its proof takes time by."""
+    parts = [f"{TOP}/crates/{crate}/{part}" for part in ("src", "specs", "proofs")]
+    return sum(os.path.getsize(f"{at}/{name}") for part in parts for at, _, names in os.walk(part) for name in names)
+
+
+class Build:
+    def __init__(self, uses):
+        self.uses = uses
+        self.work = {}
+        for name in uses:
+            self.work_above(name)
+        self.left = sorted(uses, key=lambda it: -self.work[it])
+        self.done, self.running, self.failed = set(), set(), None
+        self.lanes = [make_lane(number) for number in range(LANES)]
+        self.turn = threading.Condition()
+        self.start = time.monotonic()
+
+    def work_above(self, name):
+        """The most work in a chain of crates from this one up to the program."""
+        if name not in self.work:
+            above = [it for it, used in self.uses.items() if name in used]
+            self.work[name] = size_of(name) + max([self.work_above(it) for it in above], default=0)
+        return self.work[name]
+
+    def next(self):
+        """The crate that the most work waits for, of those that may be proved now."""
+        return next((it for it in self.left if it != PROGRAM and self.done >= set(self.uses[it])), None)
+
+    def time(self):
+        minutes, seconds = divmod(int(time.monotonic() - self.start), 60)
+        return f"{minutes} min {seconds:02} s"
+
+    def run_lane(self, lane):
+        with self.turn:
+            while True:
+                self.turn.wait_for(lambda: self.failed or self.next() or self.left == [PROGRAM] or not self.left)
+                name = None if self.failed else self.next()
+                if not name:
+                    return
+                self.left.remove(name)
+                self.running.add(name)
+                first = self.work[name] == max(self.work[it] for it in self.running)
+                self.turn.release()
+                ran = self.prove(lane, name, first)
+                self.turn.acquire()
+                self.running.remove(name)
+                if ran.returncode:
+                    self.failed = self.failed or (name, ran.stdout)
+                else:
+                    self.done.add(name)
+                    say(f"{len(self.done)} of {len(self.uses)} proved after {self.time()}: {name}")
+                self.turn.notify_all()
+
+    def prove(self, lane, name, first):
+        words = ["rt", "lib", "--jobs", str(CORES if first else max(1, CORES // 2))]
+        words = words if first else ["nice", "-n", "10", *words]
+        folder = f"{lane}/crates/{name}"
+        how = {"stdin": subprocess.DEVNULL, "stdout": subprocess.PIPE, "stderr": subprocess.STDOUT}
+        return subprocess.run(words, cwd=folder, text=True, errors="replace", check=False, **how)
+
+    def run(self):
+        threads = [threading.Thread(target=self.run_lane, args=(lane,)) for lane in self.lanes]
+        for it in threads:
+            it.start()
+        for it in threads:
+            it.join()
+        if self.failed:
+            name, said = self.failed
+            say(f"{name} is not proved:\n{said}")
+            return 1
+        # The program itself, here: `rt run` takes what the lanes proved, builds it, and runs it on nothing.
+        ran = subprocess.run(
+            ["rt", "run"], cwd=f"{TOP}/crates/{PROGRAM}", stdin=subprocess.DEVNULL, stdout=subprocess.DEVNULL,
+            stderr=subprocess.PIPE, text=True, errors="replace", check=False)
+        if not os.access(f"{TOP}/crates/{PROGRAM}/out/{PROGRAM}", os.X_OK):
+            say(f"{PROGRAM} is not built:\n{ran.stderr}")
+            return 1
+        say(f"{len(self.uses)} of {len(self.uses)} proved after {self.time()}: {PROGRAM}")
+        shutil.rmtree(ROOM, ignore_errors=True)
+        return 0
+
+
+def main():
+    uses = read_crates()
+    say(f"proving {len(uses)} crates and building the program: from nothing about ten minutes on four processors;")
+    say("what is proved already is not proved again, and an interrupted run goes on where it was")
+    sys.exit(Build(uses).run())
+
+
+main()
