@@ -1,9 +1,8 @@
 -- Words that say something are items, perhaps with `--` and modes behind them, and items say their texts.
-use Rattle.std.proofs.Common.{◌≡◌, ◌∙◌, ap, ap₂, sym, refl, subst, Bool, true, false, List, [], ◌∷◌, ◌++◌, Option, Some, None}
-use Rattle.std.specs.Prelude.{codes, map, if◌then◌else◌}
+use Rattle.std.proofs.Common.{◌≡◌, ◌∙◌, ap, ap₂, sym, refl, subst, true, false, List, [], ◌∷◌, ◌++◌, Option, Some, None}
+use Rattle.std.specs.Prelude.{map, if◌then◌else◌}
 use Rattle.std.specs.Str.{bytes_eq}
 use Rattle.std.proofs.lemmas.List.{append-nil, append_assoc}
-use Rattle.std.proofs.lemmas.Slice.Eq.{bytes_eq-Decides}
 use Rattle.qe_words.specs.declared.job.Mode.{Mode}
 use Rattle.qe_words.specs.declared.job.Mode.TheVariants.{Eliminate, Answers, Summary, Make}
 use Rattle.qe_words.specs.declared.choice.Choice.{Choice}
@@ -11,9 +10,9 @@ use Rattle.qe_words.specs.declared.choice.Choice.TheVariants.{Workers, Nodes, Nu
 use Rattle.qe_words.specs.Text.{Text}
 use Rattle.qe_words.specs.Line.{Item, apart, joined, named, name, mode_name, spelled, all_spelled, tail_spelled, tail_modes}
 use Rattle.qe_words.specs.Job.{mode_named, mode_told}
-use Rattle.qe_words.specs.Said.{Slot, of_option, of_mode, Said, Mark, two_dashes, flag, unknown, bare, Expected, anything, value_for, modes, one, same, tells, text_of, with_text, so_far, going, stepped_by, valued_by, read, mark}
+use Rattle.qe_words.specs.Said.{Slot, of_option, of_mode, Said, Mark, two_dashes, flag, unknown, bare, Expected, anything, value_for, modes, one, tells, text_of, with_text, so_far, going, stepped_by, valued_by, read, mark}
 use Rattle.qe_words.proofs.Read.{read_none}
-use Rattle.qe_words.proofs.Seen.{Sees, sees}
+use Rattle.qe_words.proofs.Seen.{Sees, found_passes, same_text, sees}
 use Rattle.qe_words.proofs.Once.{AreFirst, first_text}
 
 -- what an item says
@@ -54,22 +53,7 @@ pub record SpelledModes (words : List Text) (before end : List Said) : Type 0 wh
 -- a mode's text is its name
 mode_is : (word : Text) (m : Mode) → mode_named word ≡ Some m → word ≡ mode_name m
 mode_is word m e =
-    elim (bytes_eq word (codes "eliminate")) as (λ v. bytes_eq word (codes "eliminate") ≡ v → (if v then Some Eliminate else if bytes_eq word (codes "answers") then Some Answers else if bytes_eq word (codes "summary") then Some Summary else if bytes_eq word (codes "make") then Some Make else None) ≡ Some m → word ≡ mode_name m) [
-      | true ↦ λ is same. let f : Eliminate ≡ m = cc in same_text (codes "eliminate") is ∙ ap mode_name f
-      | false ↦ λ is1 same. elim (bytes_eq word (codes "answers")) as (λ v. bytes_eq word (codes "answers") ≡ v → (if v then Some Answers else if bytes_eq word (codes "summary") then Some Summary else if bytes_eq word (codes "make") then Some Make else None) ≡ Some m → word ≡ mode_name m) [
-        | true ↦ λ is same. let f : Answers ≡ m = cc in same_text (codes "answers") is ∙ ap mode_name f
-        | false ↦ λ is2 same. elim (bytes_eq word (codes "summary")) as (λ v. bytes_eq word (codes "summary") ≡ v → (if v then Some Summary else if bytes_eq word (codes "make") then Some Make else None) ≡ Some m → word ≡ mode_name m) [
-          | true ↦ λ is same. let f : Summary ≡ m = cc in same_text (codes "summary") is ∙ ap mode_name f
-          | false ↦ λ is3 same. elim (bytes_eq word (codes "make")) as (λ v. bytes_eq word (codes "make") ≡ v → (if v then Some Make else None) ≡ Some m → word ≡ mode_name m) [
-            | true ↦ λ is same. let f : Make ≡ m = cc in same_text (codes "make") is ∙ ap mode_name f
-            | false ↦ λ is4 same. absurd (cc)
-          ] refl same
-        ] refl same
-      ] refl same
-    ] refl e
-  where
-    same_text : (text : Text) → bytes_eq word text ≡ true → word ≡ text
-    same_text text is = (bytes_eq-Decides word text).0 is
+    same_text word (mode_name m) (found_passes (λ mode. bytes_eq word (mode_name mode)) (Eliminate ∷ Answers ∷ Summary ∷ Make ∷ []) m e)
 
 -- an item before others
 more_items : (item : Item) (words others : List Text) (before end : List Said) → words ≡ spelled item ++ others → tells (item_says item).slot before ≡ false
