@@ -78,11 +78,13 @@ more_modes mode word words before end is free told = record {
 
 -- in the end the mode's text, if there is one, is a mode's name
 module _ (end : List Said) (mode : Mode) (told : mode_told (text_of of_mode end) ≡ Some mode) where
+  -- what is shown of words by what is to come
   abbrev Spells : Expected → List Text → List Said → Type 0
   Spells anything words before = Spelled words before end
   Spells (value_for option) words before = Spelled (name option ∷ words) before end
   Spells modes words before = SpelledModes words before end
 
+  -- it holds from any state
   abbrev All : List Text → Type 0
   All words = (e : Expected) (before : List Said) → read words (Some (so_far e before)) ≡ Some end → Spells e words before
 
