@@ -59,13 +59,15 @@ expect_nothing "README's two commands exist" commands
 expect_nothing 'no citation of a paper by number' citations
 expect_nothing 'each root file asks for tactics' roots
 
-# The examples of the documents, over the built program; the last line counts them.
-examples=$(bash checks/examples.sh)
-counts=$(tail -n 1 <<<"$examples")
-head -n -1 <<<"$examples"
-passed=$((passed + ${counts%% passed*}))
-counts=${counts#*, }
-failed=$((failed + ${counts%% failed*}))
+# What is seen of the built program: the examples of the documents, and the words. The last line of each counts its rows.
+for check in examples words; do
+  rows=$(bash "checks/$check.sh")
+  counts=$(tail -n 1 <<<"$rows")
+  head -n -1 <<<"$rows"
+  passed=$((passed + ${counts%% passed*}))
+  counts=${counts#*, }
+  failed=$((failed + ${counts%% failed*}))
+done
 
 echo "$passed passed, $failed failed"
 [ "$failed" -eq 0 ]
