@@ -58,6 +58,7 @@ expect_nothing 'HANDLES as it was given' handles
 expect_nothing "README's two commands exist" commands
 expect_nothing 'no citation of a paper by number' citations
 expect_nothing 'each root file asks for tactics' roots
+expect_nothing 'the headline reaches no definition of the method' python3 checks/reaches.py --check
 
 # The examples of the documents, over the built program; the last line counts them.
 examples=$(bash checks/examples.sh)
