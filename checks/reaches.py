@@ -19,7 +19,6 @@ def scope_of(text):
         scope |= {} if names else {alias or re.split('[.:]', module)[-1]: (module, None)}
     return scope
 
-
 def meant(word, crate, scope):
     first, _, last = word.partition('.')
     module, name = scope.get(first, (crate, first))
@@ -29,7 +28,6 @@ def meant(word, crate, scope):
     name = ([part for part in path if part[:1].isupper() and part != 'TheVariants'] + [name or last])[0]
     own = (path[0].replace('crate', crate), name)
     return own if own in known or first not in scope else next((key for key in known if key[1] == name and '.' not in key[0]), None)
-
 
 for file in sorted(glob('crates/*/specs/**/*.antt', recursive=True)):
     text = re.sub('--.*', '', open(file).read())
