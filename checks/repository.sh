@@ -58,6 +58,7 @@ expect_nothing 'HANDLES as it was given' handles
 expect_nothing "README's two commands exist" commands
 expect_nothing 'no citation of a paper by number' citations
 expect_nothing 'each root file asks for tactics' roots
+expect_nothing 'the headline reaches no definition of the method' python3 checks/reaches.py --check
 
 # What is seen of the built program: the examples of the documents, and the words. The last line of each counts its rows.
 for check in examples words; do

@@ -2,7 +2,7 @@
 //! Knows nothing of what is read or written.
 #![tactic(auto)]
 
-ghost use Rattle.std.specs.Prelude.{◌≡◌, ◌≢◌, ◌∷◌, [], map, IfOk, IsErr};
+ghost use Rattle.std.specs.Prelude.{◌≡◌, ◌≢◌, ◌⊎◌, ◌∷◌, [], map, IfOk, IsErr};
 ghost use Rattle.std.specs.String.{string_bytes};
 ghost use Rattle.qe_program.specs.Asked.{AsksNothing};
 
@@ -40,7 +40,8 @@ fn outcome<S: Source, K: Sink>(
     source: &mut S,
     sink: &mut K,
 ) -> Status
-    ensures no_memory { IsErr words → (result ≡ Status.OutOfMemory) × (source.new ≡ source.old) × (sink.new ≡ sink.old) }
+    ensures no_memory { IsErr words → (result ≡ Status.OutOfMemory) × (source.new ≡ source.old) }
+    ensures sink_kept { (result ≡ Status.ReadFault) ⊎ (result ≡ Status.OutOfMemory) → sink.new ≡ sink.old }
     ensures words { IfOk words (λ all. AsksNothing (map string_bytes all.items) → source.new ≡ source.old) }
     ensures answer { IfOk words (λ all. AsksNothing (map string_bytes all.items) → result ≢ Status.Ok) }
 {

@@ -51,7 +51,7 @@ mutual
   bind_occurs (more f fs) x h = elim h [ inl k ↦ inl (binds_occurs f x k) | inr k ↦ inr (bind_occurs fs x k) ]
 
 mutual
-  free_occurs : (f : Formula) (x : ℕ) → IsFree x f → Occurs x f
+  pub free_occurs : (f : Formula) (x : ℕ) → IsFree x f → Occurs x f
   free_occurs True x h = h
   free_occurs False x h = h
   free_occurs (Atom a) x h = h

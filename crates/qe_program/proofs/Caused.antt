@@ -9,16 +9,16 @@ use Rattle.qe_base.specs.Count.{Rose}
 use Rattle.qe_base.specs.Source.{LosesAll, HasMoreThan}
 use Rattle.qe_base.specs.Sink.{AppendsUpTo}
 use Rattle.qe_program.specs.Output.{usage_line, too_long_line}
-use Rattle.qe_program.specs.Headline.{Headline}
+use Rattle.qe_program.specs.Exact.{Answers}
 use Rattle.qe_poly.specs.declared.limit.PolyLimit.TheVariants as limits
 use Rattle.qe_node.specs.declared.stop.NodeStop.TheVariants as stop
-use Rattle.qe_program.specs.Asked.{Asks, AsksNothing, IsAsked}
+use Rattle.qe_program.specs.Asked.{Asks, AsksNothing}
 use Rattle.qe_program.specs.Refusal.{IsAnswered, Refusal, fault, prenex_too_large, node, too_many_nodes, IsSo, status_of, IsRefusal}
-use Rattle.qe_program.specs.Causes.{Run, Wrote, WroteNothing, IsWithin, Asked, WroteRefusal, IsReply, IsOutput, WroteFront, Refused, Causes}
+use Rattle.qe_program.specs.Causes.{Run, Wrote, IsWithin, WroteRefusal, IsReply, IsOutput, WroteFront, Refused, Causes}
 use Rattle.qe_program.specs.Reply.{Says, Replies, Delivers}
 
 -- what is said of the bytes that are told
-where_told : (told : Option (List ℕ)) (P Q : List ℕ → Type 0) → ((bytes : List ℕ) → P bytes → Q bytes) → IfSome told P → IfSome told Q
+pub where_told : (told : Option (List ℕ)) (P Q : List ℕ → Type 0) → ((bytes : List ℕ) → P bytes → Q bytes) → IfSome told P → IfSome told Q
 where_told None P Q f h = tt
 where_told (Some bytes) P Q f h = f bytes h
 
@@ -48,7 +48,7 @@ refusal_status (node all block path (stop.TooLarge point)) = refl
 refusal_status (too_many_nodes block most) = refl
 
 -- a status that is no refusal's
-no_refusal : (answer other : Status) (why : Refusal) → answer ≡ status_of why → is_refusal other ≡ false → answer ≡ other → ⊥
+pub no_refusal : (answer other : Status) (why : Refusal) → answer ≡ status_of why → is_refusal other ≡ false → answer ≡ other → ⊥
 no_refusal answer other why is not same =
     let yes : is_refusal other ≡ true = ap is_refusal (sym same) ∙ (ap is_refusal is ∙ refusal_status why) in
     let clash : true ≡ false = sym yes ∙ not in
@@ -71,7 +71,6 @@ module _ (run : Run) (answer : Status) (nothing : AsksNothing run.words) where
     term_limit = λ e. absurd (cc);
     node_limit = λ e. absurd (cc);
     write_fault = λ e. absurd (cc);
-    out_of_memory = λ e. absurd (cc);
     complete = λ limit asks. absurd (nothing limit asks);
   }
 
@@ -88,12 +87,11 @@ module _ (run : Run) (answer : Status) (nothing : AsksNothing run.words) where
     term_limit = λ e. absurd (cc);
     node_limit = λ e. absurd (cc);
     write_fault = λ e. (rose, front);
-    out_of_memory = λ e. absurd (cc);
     complete = λ limit asks. absurd (nothing limit asks);
   }
 
-pub by_memory : (run : Run) (answer : Status) → answer ≡ status.OutOfMemory → WroteNothing run → Causes run answer
-by_memory run answer is nothing = record {
+pub by_memory : (run : Run) (answer : Status) → answer ≡ status.OutOfMemory → Causes run answer
+by_memory run answer is = record {
   ok = λ e. absurd (cc);
   usage = λ e. absurd (cc);
   read_fault = λ e. absurd (cc);
@@ -105,7 +103,6 @@ by_memory run answer is nothing = record {
   term_limit = λ e. absurd (cc);
   node_limit = λ e. absurd (cc);
   write_fault = λ e. absurd (cc);
-  out_of_memory = λ e. nothing;
   complete = λ limit asks. always_told run.left _ (λ bytes few i r w. inr is);
 }
 
@@ -124,15 +121,14 @@ module _ (run : Run) (answer : Status) (limit : ℕ) (asks : Asks run.words limi
     term_limit = λ e. absurd (cc);
     node_limit = λ e. absurd (cc);
     write_fault = λ e. absurd (cc);
-    out_of_memory = λ e. absurd (cc);
     complete = λ other asks. always_told run.left _ (λ bytes few i r w. inl is);
   }
 
-  by_read_fault : answer ≡ status.ReadFault → Rose run.read_faults run.read_faults_after → WroteNothing run → Causes run answer
-  by_read_fault is rose nothing = record {
+  by_read_fault : answer ≡ status.ReadFault → Rose run.read_faults run.read_faults_after → Causes run answer
+  by_read_fault is rose = record {
     ok = λ e. absurd (cc);
     usage = λ e. absurd (cc);
-    read_fault = λ e. (limit, asks, (rose, nothing));
+    read_fault = λ e. (limit, asks, rose);
     input_too_long = λ e. absurd (cc);
     bad_input = λ e. absurd (cc);
     too_large = λ e. absurd (cc);
@@ -141,7 +137,6 @@ module _ (run : Run) (answer : Status) (limit : ℕ) (asks : Asks run.words limi
     term_limit = λ e. absurd (cc);
     node_limit = λ e. absurd (cc);
     write_fault = λ e. absurd (cc);
-    out_of_memory = λ e. absurd (cc);
     complete = λ other asks. always_told run.left _ (λ bytes few i r w. absurd (r rose));
   }
 
@@ -158,7 +153,6 @@ module _ (run : Run) (answer : Status) (limit : ℕ) (asks : Asks run.words limi
     term_limit = λ e. absurd (cc);
     node_limit = λ e. absurd (cc);
     write_fault = λ e. absurd (cc);
-    out_of_memory = λ e. absurd (cc);
     complete = λ other asks. where_told run.left _ _ (λ bytes more few i r w. absurd (omega arith)) many;
   }
 
@@ -175,7 +169,6 @@ module _ (run : Run) (answer : Status) (limit : ℕ) (asks : Asks run.words limi
     term_limit = refusal_of status.TermLimit;
     node_limit = refusal_of status.NodeLimit;
     write_fault = λ e. absurd (no_refusal answer status.WriteFault refused.why refused.status_is refl e);
-    out_of_memory = λ e. absurd (no_refusal answer status.OutOfMemory refused.why refused.status_is refl e);
     complete = λ other asks. where_told run.left _ _ (λ bytes none few i r w. absurd (none (subst (λ l. IsAnswered l bytes) (only other asks) i))) none;
   }
     where
@@ -195,7 +188,6 @@ module _ (run : Run) (answer : Status) (limit : ℕ) (asks : Asks run.words limi
     term_limit = λ e. absurd (cc);
     node_limit = λ e. absurd (cc);
     write_fault = λ e. (rose, front);
-    out_of_memory = λ e. absurd (cc);
     complete = λ other asks. always_told run.left _ (λ bytes few i r w. absurd (w rose));
   }
 
@@ -210,7 +202,7 @@ Delivered run reply answer = Delivers reply answer run.taken run.taken_after run
 
 -- the line for words that ask for nothing
 pub refused_words : (run : Run) (reply : Result Reply AllocError) (answer : Status) → AsksNothing run.words → IfOk reply (Says status.Usage usage_line) → Delivered run reply answer → Causes run answer
-refused_words run (Err e) answer nothing is d = by_memory run answer d.0 d.1
+refused_words run (Err e) answer nothing is d = by_memory run answer d
 refused_words run (Ok reply) answer nothing is d =
     elim d [
       | inl whole ↦ by_usage run answer nothing (whole.0 ∙ is.0) (subst (λ text. Wrote run text) is.1 whole.1)
@@ -224,12 +216,12 @@ module _ (run : Run) (limit : ℕ) (asks : Asks run.words limit) (only : (other 
 
   -- the reply to bytes that were read to the end
   pub answered : (bytes : List ℕ) (reply : Result Reply AllocError) → LosesAll run.left run.left_after bytes → IsWithin bytes → IfOk reply (Replies limit bytes) → Delivered run reply answer → Causes run answer
-  answered bytes (Err e) all few replies d = by_memory run answer d.0 d.1
+  answered bytes (Err e) all few replies d = by_memory run answer d
   answered bytes (Ok reply) all few replies d =
       elim replies [
         | inl good ↦ elim d [
           | inl whole ↦ by_ok run answer limit asks only (whole.0 ∙ good.0) (where_told run.left _ _ (λ told h. (subst IsWithin h.0 few, h.1)) all)
-          | inr cut ↦ reply_cut reply (where_told run.left _ _ (λ told h. inl (subst IsWithin h.0 few, inl (subst (λ b. Headline limit b reply.text.items) h.0 good.1))) all) cut
+          | inr cut ↦ reply_cut reply (where_told run.left _ _ (λ told h. inl (subst IsWithin h.0 few, inl (subst (λ b. Answers limit b reply.text.items) h.0 good.1))) all) cut
         ]
         | inr bad ↦ elim d [
           | inl whole ↦ by_refusal run answer limit asks only
@@ -247,7 +239,7 @@ module _ (run : Run) (limit : ℕ) (asks : Asks run.words limit) (only : (other 
 
   -- the reply to bytes that were too many
   pub too_many : (reply : Result Reply AllocError) → HasMoreThan 1048576 run.left → IfOk reply (Says status.InputTooLong too_long_line) → Delivered run reply answer → Causes run answer
-  too_many (Err e) many is d = by_memory run answer d.0 d.1
+  too_many (Err e) many is d = by_memory run answer d
   too_many (Ok reply) many is d =
       elim d [
         | inl whole ↦ by_too_long run answer limit asks only (whole.0 ∙ is.0) many (subst (λ text. Wrote run text) is.1 whole.1)

@@ -1,2 +1,4 @@
+pub mod Printed
 pub mod Replied
 pub mod Caused
+pub mod Told

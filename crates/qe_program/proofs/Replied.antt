@@ -1,11 +1,11 @@
 -- What a reply to a prenex form, to a formula or to a fault says of the bytes.
-use Rattle.std.proofs.Common.{ℕ, ◌≡◌, ◌≢◌, ◌∙◌, ◌<◌, ◌≤◌, sym, ap, refl, subst, inl, inr, List, Result, Ok, Err, arith}
+use Rattle.std.proofs.Common.{ℕ, ◌≡◌, ◌≢◌, ◌∙◌, ◌<◌, sym, ap, refl, subst, inl, inr, List, length, Result, Ok, Err}
 use Rattle.std.specs.Prelude.{IfOk}
 use Rattle.std.specs.declared.alloc.AllocError.{AllocError}
 use Rattle.qe_form.specs.declared.names.Input.{Input}
 use Rattle.qe_form.specs.Formula.{Formula}
 use Rattle.qe_form.specs.Tree.{tree}
-use Rattle.qe_form.specs.Same.{HasNoQuantifier, Same}
+use Rattle.qe_form.specs.Same.{IsFree, Same}
 use Rattle.qe_form.specs.Holds.{HoldAlike}
 use Rattle.qe_form.specs.Preserved.{Preserves, HasDecidedCore}
 use Rattle.qe_form.proofs.Preservation.{preserves_is_preorder, cores_are_decided}
@@ -20,30 +20,36 @@ use Rattle.qe_norm.specs.Prenex.{IsPrenexOf, stands_for}
 use Rattle.qe_tree.specs.Block.{given, stopped}
 use Rattle.qe_elim.specs.Answer.{blocks_of}
 use Rattle.qe_program.specs.declared.reply.Reply.{Reply}
-use Rattle.qe_program.specs.declared.status.Status.TheVariants.{TooLarge}
-use Rattle.qe_program.specs.Output.{prenex_too_large_line}
-use Rattle.qe_program.specs.Outcome.{blocks, matrix, all_names, outcome}
-use Rattle.qe_program.specs.Refusal.{Stands, IsSmall, IsLarge, HasAnswer, Refusal, fault, prenex_too_large, node, too_many_nodes, IsReason, IsSoOf, IsSo, status_of, refusal_line, IsRefusal}
-use Rattle.qe_program.specs.Reply.{Says, RepliesByFormula, RepliesByNode, RepliesByLimit, RepliesToBlocks, RepliesToPrenex, RefusesFormula, RepliesToFormula, RepliesToFault, Replies}
+use Rattle.qe_program.specs.Output.{line}
+use Rattle.qe_program.specs.Outcome.{blocks, matrix, all_names}
+use Rattle.qe_program.specs.Refusal.{IsSmall, HasAnswer, Refusal, fault, prenex_too_large, node, too_many_nodes, IsReason, IsSoOf, IsSo}
+use Rattle.qe_program.proofs.Printed.{printed}
+use Rattle.qe_program.specs.Reply.{RepliesByFormula, RepliesByNode, RepliesByLimit, RepliesToBlocks, RepliesToPrenex, RepliesToFormula, RepliesToFault, Replies}
 
 -- ---- a prenex form
 
-module _ (limit : ℕ) (f : Formula) (names : List Letters) (whole : Formula) (keeps : Preserves f whole) (alike : HoldAlike f whole) (same : HasDecidedCore f → Same f whole) (small : IsSmall f) (reply : Reply) where
+module _ (limit : ℕ) (f : Formula) (names : List Letters) (below : (x : ℕ) → IsFree x f → x < length names) (whole : Formula) (keeps : Preserves f whole) (alike : HoldAlike f whole) (same : HasDecidedCore f → Same f whole)
+    (small : IsSmall f) (reply : Reply) where
   by_formula : RepliesByFormula limit (blocks f names) (matrix f names) (all_names f names) whole reply → RepliesToFormula limit f names reply
   by_formula r =
+      let answers = settles f whole r.answer keeps.free alike r.same r.no_quantifier in
       let all_same : HasDecidedCore f → Same f r.answer = λ core. same_is_preorder.transitive f whole r.answer (same core) r.same in
       inl (
         r.says.0,
         record {
-          answer = r.answer;
-          written = r.says.1;
-          no_quantifier = r.no_quantifier;
-          settles = settles f whole r.answer keeps.free alike r.same r.no_quantifier;
-          keeps = preserves_is_preorder.transitive f whole r.answer keeps (preserves_is_preorder.same whole r.answer r.same);
-          same_points = all_same;
-          same_outer = λ outer. all_same (cores_are_decided.outer f outer);
-          exact = r.is_given;
-          fits = r.fits;
+          exact = record { small = small; eliminated = r.answer; is_given = r.is_given; fits = r.fits; written = r.says.1 };
+          constructive = record {
+            is_answer = record {
+              answer = r.answer;
+              written = r.says.1 ∙ ap line (printed f names r.answer r.no_quantifier (λ x free. below x (answers.free x free)));
+              no_quantifier = r.no_quantifier;
+              settles = answers;
+            };
+            is_given = r.is_given;
+            keeps = preserves_is_preorder.transitive f whole r.answer keeps (preserves_is_preorder.same whole r.answer r.same);
+            same_points = all_same;
+            same_outer = λ outer. all_same (cores_are_decided.outer f outer);
+          };
         },
       )
 
@@ -68,18 +74,14 @@ module _ (limit : ℕ) (f : Formula) (names : List Letters) (whole : Formula) (k
   by_blocks (inr (inl r)) = by_node r
   by_blocks (inr (inr r)) = by_limit r
 
-pub prenex_replied : (limit : ℕ) (f : Formula) (names : List Letters) (p : Prenex) (r : Result Reply AllocError) → IsSmall f → IsPrenexOf f names p → Preserves f (stands_for p) → HoldAlike f (stands_for p) → (HasDecidedCore f → Same f (stands_for p))
+pub prenex_replied : (limit : ℕ) (f : Formula) (names : List Letters) (p : Prenex) (r : Result Reply AllocError) → ((x : ℕ) → IsFree x f → x < length names) → IsSmall f → IsPrenexOf f names p → Preserves f (stands_for p) → HoldAlike f (stands_for p) → (HasDecidedCore f → Same f (stands_for p))
     → IfOk r (RepliesToPrenex limit p) → IfOk r (RepliesToFormula limit f names)
-prenex_replied limit f names p (Err e) small is keeps alike same h = tt
-prenex_replied limit f names p (Ok reply) small is keeps alike same h =
-    by_blocks limit f names (stands_for p) keeps alike same small reply
+prenex_replied limit f names p (Err e) below small is keeps alike same h = tt
+prenex_replied limit f names p (Ok reply) below small is keeps alike same h =
+    by_blocks limit f names below (stands_for p) keeps alike same small reply
     (subst (λ bs. RepliesToBlocks limit bs (matrix f names) (all_names f names) (stands_for p) reply) (ap blocks_of is.blocks)
     (subst (λ m. RepliesToBlocks limit (blocks_of p.blocks.items) m (all_names f names) (stands_for p) reply) is.matrix
     (subst (λ all. RepliesToBlocks limit (blocks_of p.blocks.items) (tree p.matrix) all (stands_for p) reply) is.names h)))
-
-pub large_replied : (limit : ℕ) (f : Formula) (names : List Letters) (r : Result Reply AllocError) → IsLarge f → IfOk r (Says TooLarge prenex_too_large_line) → IfOk r (RepliesToFormula limit f names)
-large_replied limit f names (Err e) large h = tt
-large_replied limit f names (Ok reply) large h = inr (record { why = prenex_too_large; is_so = large; says = h; unanswered = λ a. let small = a.small in omega arith })
 
 -- ---- the bytes
 
@@ -114,7 +116,7 @@ pub formula_replied : (limit : ℕ) (bytes : List ℕ) (input : Input) (r : Resu
 formula_replied limit bytes input (Err e) is only h = tt
 formula_replied limit bytes input (Ok reply) is only h =
     elim h [
-      | inl good ↦ inl (good.0, record { read = tree input.form; names = input.names; is_input = is; is_answer = good.1 })
+      | inl good ↦ inl (good.0, record { formula = tree input.form; names = input.names; is_input = is; holds = good.1 })
       | inr bad ↦
           let so = so_of_bytes limit bytes (tree input.form) input.names bad.why is bad.is_so in
           inr (

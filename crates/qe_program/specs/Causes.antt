@@ -8,7 +8,7 @@ use Rattle.qe_base.specs.Count.{Rose}
 use Rattle.qe_base.specs.Source.{HasMoreThan}
 use Rattle.qe_base.specs.Sink.{AppendsUpTo}
 use Rattle.qe_program.specs.Output.{usage_line, too_long_line}
-use Rattle.qe_program.specs.Headline.{Headline}
+use Rattle.qe_program.specs.Exact.{Answers}
 use Rattle.qe_program.specs.Asked.{Asks, AsksNothing}
 use Rattle.qe_program.specs.Refusal.{IsAnswered, Refusal, IsReason, IsSo, status_of, refusal_line, IsRefusal}
 
@@ -27,10 +27,6 @@ pub record Run : Type 0 where
 -- where the sink tells, it took this text
 abbrev pub Wrote : Run → List ℕ → Type 0
 Wrote run text = Appends run.taken run.taken_after text
-
--- the sink took nothing
-abbrev pub WroteNothing : Run → Type 0
-WroteNothing run = run.taken_after ≡ run.taken
 
 -- no more bytes than are read
 abbrev pub IsWithin : List ℕ → Type 0
@@ -51,7 +47,7 @@ pub record WroteRefusal (run : Run) (answer : Status) (limit : ℕ) : Type 0 whe
 -- the answer to bytes, the line of their refusal, or that they are too many
 abbrev pub IsReply : ℕ → List ℕ → List ℕ → Type 0
 IsReply limit bytes text =
-    (IsWithin bytes × (Headline limit bytes text ⊎ ((answer : Status) × IsRefusal limit bytes text answer)))
+    (IsWithin bytes × (Answers limit bytes text ⊎ ((answer : Status) × IsRefusal limit bytes text answer)))
     ⊎ ((1048576 < length bytes) × (text ≡ too_long_line))
 
 -- the text of a call in which nothing fails; where the source does not tell its bytes, any
@@ -80,14 +76,14 @@ Completes run answer =
 abbrev pub Refused : Run → Status → Type 0
 Refused run answer = Asked run (WroteRefusal run answer)
 
--- each status comes only for its cause
+-- Each status comes only for its cause. `OutOfMemory` may come in place of any.
 pub record Causes (run : Run) (answer : Status) : Type 0 where
   -- the input was read to its end
   pub ok : answer ≡ status.Ok → Asked run (λ limit. IfSome run.left (λ bytes. IsWithin bytes × (run.left_after ≡ Some [])))
   -- the words give no job that eliminates
   pub usage : answer ≡ status.Usage → AsksNothing run.words × Wrote run usage_line
   -- the source's count of faults rose
-  pub read_fault : answer ≡ status.ReadFault → Asked run (λ limit. Rose run.read_faults run.read_faults_after × WroteNothing run)
+  pub read_fault : answer ≡ status.ReadFault → Asked run (λ limit. Rose run.read_faults run.read_faults_after)
   -- more than 1,048,576 bytes were given
   pub input_too_long : answer ≡ status.InputTooLong → Asked run (λ limit. HasMoreThan 1048576 run.left × Wrote run too_long_line)
   -- the bytes have a first fault
@@ -104,6 +100,4 @@ pub record Causes (run : Run) (answer : Status) : Type 0 where
   pub node_limit : answer ≡ status.NodeLimit → Refused run status.NodeLimit
   -- the sink's count of faults rose
   pub write_fault : answer ≡ status.WriteFault → Rose run.write_faults run.write_faults_after × WroteFront run
-  -- memory was wanted before anything was written
-  pub out_of_memory : answer ≡ status.OutOfMemory → WroteNothing run
   pub complete : Completes run answer

@@ -4,5 +4,6 @@ pub mod Outcome
 pub mod Headline
 pub mod Asked
 pub mod Refusal
+pub mod Exact
 pub mod Causes
 pub mod Reply

@@ -1,9 +1,9 @@
 -- What elimination gives for a formula with names: that of its prenex form.
-use Rattle.std.specs.Prelude.{ℕ, ◌≡◌, ◌≤◌, List, map, Result, Ok, Err}
+use Rattle.std.specs.Prelude.{ℕ, List}
 use Rattle.qe_form.specs.Formula.{Formula}
 use Rattle.qe_norm.specs.Blocks.{prefix, grouped}
 use Rattle.qe_norm.specs.Blocks as prenex
-use Rattle.qe_norm.specs.Prenex.{walk, size}
+use Rattle.qe_norm.specs.Prenex.{walk}
 use Rattle.qe_tree.specs.Block.{Block, Eliminated, eliminated, EachBlock, AtBlock, Fits, IsWithin, IsBeyond}
 use Rattle.qe_node.specs.declared.stop.NodeStop.{NodeStop}
 use Rattle.qe_node.specs.Successors.{expansion}

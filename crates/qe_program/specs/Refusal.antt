@@ -6,7 +6,7 @@ use Rattle.qe_form.specs.Formula.{Formula}
 use Rattle.qe_read.specs.declared.fault.ReadFault.{ReadFault}
 use Rattle.qe_read.specs.declared.fault.ReadFault.TheVariants as read
 use Rattle.qe_read.specs.Names.{Letters}
-use Rattle.qe_read.specs.Input.{IsInput, IsFirstFaultOf}
+use Rattle.qe_read.specs.Input.{IsFirstFaultOf}
 use Rattle.qe_norm.specs.Prenex.{size}
 use Rattle.qe_tree.specs.Tree.{Step}
 use Rattle.qe_tree.specs.Block.{given, stopped}
@@ -14,15 +14,9 @@ use Rattle.qe_node.specs.declared.stop.NodeStop.{NodeStop}
 use Rattle.qe_node.specs.declared.stop.NodeStop.TheVariants as stop
 use Rattle.qe_program.specs.declared.status.Status.{Status}
 use Rattle.qe_program.specs.declared.status.Status.TheVariants as status
+use Rattle.qe_program.specs.Headline.{Stands}
 use Rattle.qe_program.specs.Output.{fault_line, prenex_too_large_line, node_line, node_limit_line}
 use Rattle.qe_program.specs.Outcome.{outcome, all_names, EachIsWithin, BlockIsWithin, BlockIsBeyond}
-
--- the bytes stand for a formula with names of which this is so
-pub record Stands (bytes : List ℕ) (P : Formula → List Letters → Type 0) : Type 0 where
-  pub formula : Formula
-  pub names : List Letters
-  pub is_input : IsInput bytes formula names
-  pub holds : P formula names
 
 -- the prenex form has at most 65,536 atoms, constants and quantifiers, or more
 abbrev pub IsSmall : Formula → Type 0

@@ -24,7 +24,7 @@ use Rattle.qe_program.specs.declared.status.Status.TheVariants as status
 use Rattle.qe_base.specs.Count.{Rose}
 use Rattle.qe_base.specs.Sink.{AppendsUpTo}
 use Rattle.qe_program.specs.Output.{line, fault_line, node_line, node_limit_line}
-use Rattle.qe_program.specs.Headline.{IsAnswer, Headline}
+use Rattle.qe_program.specs.Exact.{IsFullAnswer, Answers}
 use Rattle.qe_program.specs.Refusal.{HasAnswer, IsAnswered, Refusal, IsSoOf, stop_status, status_of, refusal_line, IsRefusal}
 
 -- the reply has this status and this text
@@ -76,7 +76,7 @@ pub record RefusesFormula (limit : ℕ) (f : Formula) (names : List Letters) (re
 -- the reply is the answer to a formula, or refuses it
 abbrev pub RepliesToFormula : ℕ → Formula → List Letters → Reply → Type 0
 RepliesToFormula limit f names reply =
-    ((reply.status ≡ status.Ok) × IsAnswer limit f names reply.text.items) ⊎ RefusesFormula limit f names reply
+    ((reply.status ≡ status.Ok) × IsFullAnswer limit reply.text.items f names) ⊎ RefusesFormula limit f names reply
 
 -- the reply refuses an input for its fault
 abbrev pub RepliesToFault : ReadFault → Reply → Type 0
@@ -85,12 +85,12 @@ RepliesToFault fault reply = (fault ≢ read.OutOfMemory) × Says status.BadInpu
 -- the reply is the answer to the bytes, or refuses them where they are not to be answered
 abbrev pub Replies : ℕ → List ℕ → Reply → Type 0
 Replies limit bytes reply =
-    ((reply.status ≡ status.Ok) × Headline limit bytes reply.text.items)
+    ((reply.status ≡ status.Ok) × Answers limit bytes reply.text.items)
     ⊎ (IsRefusal limit bytes reply.text.items reply.status × (IsAnswered limit bytes → ⊥))
 
 -- What came of a reply that was to be written, or of none: the status, what the sink took, and its faults.
 abbrev pub Delivers : Result Reply AllocError → Status → Option (List ℕ) → Option (List ℕ) → ℕ → ℕ → Type 0
-Delivers (Err e) answer taken taken_after faults faults_after = (answer ≡ status.OutOfMemory) × (taken_after ≡ taken)
+Delivers (Err e) answer taken taken_after faults faults_after = answer ≡ status.OutOfMemory
 Delivers (Ok reply) answer taken taken_after faults faults_after =
     ((answer ≡ reply.status) × Appends taken taken_after reply.text.items)
     ⊎ ((answer ≡ status.WriteFault) × Rose faults faults_after × ((rest : List ℕ) × AppendsUpTo taken taken_after reply.text.items rest))

@@ -1,6 +1,6 @@
 //! The text for an input, made whole before any of it is written.
 
-ghost use Rattle.std.specs.Prelude.{◌≡◌, ◌<◌, ◌≤◌, ◌^◌, length, IfOk};
+ghost use Rattle.std.specs.Prelude.{◌≡◌, ◌<◌, ◌≤◌, ◌^◌, length, IfOk, IsErr};
 ghost use Rattle.qe_form.specs.Tree.{tree};
 ghost use Rattle.qe_form.specs.Measures.{count};
 ghost use Rattle.qe_form.specs.Plain.{IsPlain};
@@ -183,7 +183,9 @@ pub fn reply_to(alloc: Global, bytes: &[u8], limit: u32) -> Result<Reply, OutOfM
 
 /// Writes a reply, where there was memory for it.
 pub fn deliver<K: Sink>(sink: &mut K, reply: Result<Reply, OutOfMemory>) -> Status
-    ensures { Delivers reply result (K.taken sink.old) (K.taken sink.new) (K.faults sink.old) (K.faults sink.new) }
+    ensures delivers { Delivers reply result (K.taken sink.old) (K.taken sink.new)
+        (K.faults sink.old) (K.faults sink.new) }
+    ensures kept { IsErr reply → sink.new ≡ sink.old }
 {
     match reply {
         Ok(reply) => match write_all(sink, &reply.text) {

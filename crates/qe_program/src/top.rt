@@ -1,10 +1,10 @@
 //! The top call.
 
-ghost use Rattle.std.specs.Prelude.{◌≡◌, map, IfSome, List, ℕ};
-ghost use Rattle.std.specs.Io.KnownBytes.{Appends};
+ghost use Rattle.std.specs.Prelude.{◌≡◌, ◌⊎◌, map, ℕ};
 ghost use Rattle.std.specs.String.{string_bytes};
 ghost use Rattle.qe_program.specs.Asked.{Asks, AsksNothing};
-ghost use Rattle.qe_program.specs.Headline.{Headline};
+ghost use Rattle.qe_program.specs.Headline.{Headline, Writes};
+ghost use Rattle.qe_program.specs.Exact.{Exact, Constructive};
 ghost use Rattle.qe_program.specs.Causes.{Causes};
 
 use crate::asked::limit_asked;
@@ -13,22 +13,31 @@ use crate::status::Status;
 use qe_base::{ReadStop, Sink, Source, read_all};
 use std::alloc::Global;
 
-/// Does all that the program does, with one worker: reads an input from the source, and writes the answer, or the line
-/// of its refusal, to the sink. The words are those of the command line, without the program's name.
+/// Does all that the program does, with one worker: reads an input from the source, and writes the
+/// answer, or the line of its refusal, to the sink. The words are those of the command line, without
+/// the program's name.
 ///
-/// What stands before decides: the words, the reading, the length, the first fault of the input, the size of its prenex form, the
-/// blocks from the innermost, and the writing.
+/// What stands before decides: the words, the reading, the length, the first fault of the input, the
+/// size of its prenex form, the blocks from the innermost, and the writing.
 pub fn run_alone<S: Source, K: Sink>(
     alloc: Global,
     words: &[String],
     source: &mut S,
     sink: &mut K,
 ) -> Status
-    // At status 0 the words ask for elimination, and the text of a formula was written that has no quantifier and means
-    // what the one means that was read.
-    ensures headline { result ≡ Status.Ok → (limit : ℕ) × Asks (map string_bytes words.now) limit × IfSome (S.left source.old)
-        (λ bytes. (text : List ℕ) × Headline limit bytes text
-        × Appends (K.taken sink.old) (K.taken sink.new) text) }
+    // At status 0 the words ask for elimination, and the text of a formula was written that has no
+    // quantifier, is true exactly where the formula read holds, and false exactly where that does not.
+    ensures headline { result ≡ Status.Ok → (limit : ℕ) × Asks (map string_bytes words.now) limit
+        × Writes (S.left source.old) (K.taken sink.old) (K.taken sink.new) Headline }
+
+    // It is the formula that elimination gives, and no block has more nodes than the limit.
+    ensures exact { result ≡ Status.Ok → (limit : ℕ) × Asks (map string_bytes words.now) limit
+        × Writes (S.left source.old) (K.taken sink.old) (K.taken sink.new) (Exact limit) }
+
+    // To one who reads proofs as programs: truth and falsity pass to the formula written, and back
+    // where what follows the outer quantifiers and negations of the one read is decided.
+    ensures constructive { result ≡ Status.Ok →
+        Writes (S.left source.old) (K.taken sink.old) (K.taken sink.new) Constructive }
 
     // Each status comes only for its cause, and where there is no cause for another the answer is written.
     ensures causes { Causes
@@ -47,6 +56,10 @@ pub fn run_alone<S: Source, K: Sink>(
 
     // Words that ask for nothing leave the source as it was.
     ensures source_kept { AsksNothing (map string_bytes words.now) → source.new ≡ source.old }
+
+    // Where the input cannot be read, or memory is wanted, the sink is as it was.
+    ensures sink_kept { (result ≡ Status.ReadFault) ⊎ (result ≡ Status.OutOfMemory) →
+        sink.new ≡ sink.old }
 {
     let limit = match limit_asked(alloc, words) {
         Ok(Some(limit)) => limit,
