@@ -1,5 +1,5 @@
 -- The successors that the code finds, one candidate after another.
-use Rattle.std.proofs.Common.{ℕ, suc, ◌+◌, ◌≡◌, ◌∙◌, ◌<◌, ◌≤◌, sym, ap, refl, subst, Bool, true, false, cond, List, [], ◌∷◌, ◌++◌, map, length, get_or, drop, drop-cons, add-one, arith, append_assoc, append-nil, Option, Some, None, Result, Ok, Err}
+use Rattle.std.proofs.Common.{ℕ, suc, ◌+◌, ◌≡◌, ◌∙◌, ◌<◌, ◌≤◌, sym, ap, refl, subst, Bool, true, false, cond, List, [], ◌∷◌, ◌++◌, map, length, get_or, drop, drop-cons, add-one, arith, append_assoc, append-nil, Option, Some, None, Result, Ok, Err, IfOk}
 use Rattle.std.specs.List.{All}
 use Rattle.std.proofs.lemmas.List.Elements.{All-weaker}
 use Rattle.qe_poly.specs.declared.monomial.Var.{Var}
@@ -109,6 +109,11 @@ roots_of_each x f cs h = All-weaker (IsOf x f) (HasRoot x) (λ c k. k.root) cs h
 pub growth_at : {A : Type 0} (items : A → List (Next Sight)) (x : ℕ) (f : Formula) (vars left : List ℕ) (cs : List Candidate) (told : Bool) (r : Result A GrowthStop) → left ≡ others x vars → cs ≡ candidates x f
     → IsGrowth items (nodes_below left (given_by x f 0 cs)) told r → IsGrowth items (nodes_below (others x vars) (given_by x f 0 (candidates x f))) told r
 growth_at items x f vars left cs told r is made h = subst (λ ys. IsGrowth items (nodes_below ys (given_by x f 0 (candidates x f))) told r) is (subst (λ ds. IsGrowth items (nodes_below left (given_by x f 0 ds)) told r) made h)
+
+-- what holds anyway
+pub if_ok : {A E P : Type 0} (r : Result A E) → P → IfOk r (λ _. P)
+if_ok (Ok a) p = p
+if_ok (Err e) p = tt
 
 outcome_at : (x : ℕ) (vars : List ℕ) (r : Result (List (ℕ × Formula)) NodeStop) → nodes_below (others x vars) r ≡ outcome_of vars (at_variable x r)
 outcome_at x vars (Ok parts) = refl

@@ -106,8 +106,7 @@ in_point y point.MinusInf h = h
 
 complete : (x : ℕ) (f : Formula) → IsFine f → degree x f ≤ 2 → IsComplete x f (candidates x f)
 complete x f fine low =
-    made_complete (λ a. a) x f (atoms f) (candidates x f) (map_same (atoms f))
-    (members.all_in (λ a. IsPolynomial a.poly) (atoms f) (in_each (λ a. IsPolynomial a.poly) (atoms f) (atoms_fine f fine))) refl (fine_plain f fine) low
+    made_complete (λ a. a) f (atoms f) (map_same (atoms f)) (members.all_in (λ a. IsPolynomial a.poly) (atoms f) (in_each (λ a. IsPolynomial a.poly) (atoms f) (atoms_fine f fine))) x (candidates x f) refl (fine_plain f fine) low
 
 module _ (x : ℕ) (f : Formula) (fine : IsFine f) (proper : IsPlainAndProper f) (low : degree x f ≤ 2) where
   none : HasNoQuantifier f

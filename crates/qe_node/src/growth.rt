@@ -2,16 +2,16 @@
 
 ghost use Rattle.std.specs.Prelude.{◌≡◌, ◌≢◌, ◌≤◌, false, true, not, eqb, length, All, AllPairs, IfOk, map};
 ghost use Rattle.qe_form.specs.Measures.{degree};
-ghost use Rattle.qe_form.specs.Plain.{IsPlainAndProper};
+ghost use Rattle.qe_form.specs.Plain.{IsPlain, IsPlainAndProper};
 ghost use Rattle.qe_form.specs.Tree.{tree};
 ghost use Rattle.qe_points.specs.Candidates as listed;
 ghost use Rattle.qe_points.specs.Guarded.{HasRoot};
+ghost use Rattle.qe_tree.specs.Sound.{IsFine};
 ghost use Rattle.qe_node.specs.Successors.{given_by, is_true};
 ghost use Rattle.qe_node.specs.Answer.{IsAnswer, others, outcome};
 ghost use Rattle.qe_node.specs.Growth.{IsGrowth, nodes_below};
 ghost use Rattle.qe_node.specs.Truth.{KeepsTruth};
 
-use crate::polynomials::look_at;
 use crate::trial::{Trial, try_candidate};
 use crate::{Form, Node, NodeStop, OutOfMemory, Sequence, Var, Vars, root};
 use qe_piece::{Made, Never, Next, Stop};
@@ -135,6 +135,7 @@ fn grow_at<T: Stop>(
     requires proper { IsPlainAndProper (tree form.now) }
     requires degree { degree x.0 (tree form.now) ≤ 2 }
     ensures answer { IsGrowth (λ v. v.items) (nodes_below (others x.0 (map (λ v. v.0) vars.now)) (given_by x.0 (tree form.now) 0 (listed.candidates x.0 (tree form.now)))) (T.told stop.new) result }
+    ensures canonical { IfOk result (λ _. IsPlain (tree form.now) → IsFine (tree form.now)) }
     ensures stays { T.told stop.old ≡ true → T.told stop.new ≡ true }
     ensures basis { T.basis stop.new ≡ T.basis stop.old }
 {
@@ -156,7 +157,6 @@ pub fn expand<T: Stop>(alloc: Global, node: &Node, stop: &mut T) -> Made<Node>
     ensures stays { T.told stop.old ≡ true → T.told stop.new ≡ true }
     ensures basis { T.basis stop.new ≡ T.basis stop.old }
 {
-    look_at(&node.form);
     let vars = node.vars.items();
     let Some(x) = choose(&node.form, vars) else {
         return Made::Failed(NodeStop::DegreeExcess);

@@ -6,7 +6,6 @@ mod growth;
 pub mod laws;
 mod node;
 mod piece;
-mod polynomials;
 mod start;
 mod stop;
 mod trial;

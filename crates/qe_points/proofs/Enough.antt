@@ -14,9 +14,9 @@ use Rattle.qe_line.proofs.Reach.{root_place, reached}
 use Rattle.qe_poly.specs.Polynomial.{Polynomial, IsPolynomial}
 use Rattle.qe_poly.specs.Coefficients.{degree_in}
 use Rattle.qe_form.specs.declared.form.Atom as atom
-use Rattle.qe_form.specs.Formula.{Formula, Formulas, Atom, And, Or, Ex, no_more, more}
+use Rattle.qe_form.specs.Formula.{Formula, Formulas, True, False, Atom, And, Or, Ex, no_more, more}
 use Rattle.qe_form.specs.Measures.{degree, degree_of_some}
-use Rattle.qe_form.specs.Plain.{IsPlain}
+use Rattle.qe_form.specs.Plain.{IsPlain, IsPlainWith, ArePlainWith}
 use Rattle.qe_form.specs.Same.{OccursInSome, IsFree, IsFreeInSome}
 use Rattle.qe_form.specs.Truth.{Is}
 use Rattle.qe_form.proofs.TwoSides.{never_both, decided}
@@ -287,11 +287,31 @@ candidates_complete x f plain low canonical = complete_list x f (candidates x f)
     small : (a : atom.Atom) → IsIn a (atoms f) → degree_in x a.poly ≤ 2
     small a i = let d = degree_each x f a i in omega (arith, d)
 
--- those that are made, where the atoms are those of some items
-pub made_complete : {X : Type 0} (shown : X → atom.Atom) (x : ℕ) (f : Formula) (items : List X) (cs : List Candidate) → map shown items ≡ atoms f
-    → ((k : ℕ) (d : X) → k < length items → IsPolynomial (shown (get_or items k d)).poly) → cs ≡ candidates x f → IsPlain f → degree x f ≤ 2 → IsComplete x f cs
-made_complete shown x f items cs all canonical made plain low =
-    subst (IsComplete x f) (sym made) (candidates_complete x f plain low (λ a i. by a (of_map shown a items (subst (IsIn a) (sym all) i))))
-  where
-    by : (a : atom.Atom) → (y : _) × IsIn y items × (shown y ≡ a) → IsPolynomial a.poly
-    by a r = subst (λ b. IsPolynomial b.poly) r.2 (of_all (λ y. IsPolynomial (shown y).poly) items canonical r.0 r.1)
+-- a plain formula whose atoms are over canonical polynomials is over these
+mutual
+  plain_over : (f : Formula) → IsPlain f → ((a : atom.Atom) → IsIn a (atoms f) → IsPolynomial a.poly) → IsPlainWith (λ a. IsPolynomial a.poly) f
+  plain_over True plain over = tt
+  plain_over False plain over = tt
+  plain_over (Atom a) plain over = over a (inl refl)
+  plain_over (And fs) plain over = plain_over_each fs plain over
+  plain_over (Or fs) plain over = plain_over_each fs plain over
+  plain_over f plain over = absurd plain
+
+  plain_over_each : (fs : Formulas) → ArePlainWith (λ a. Unit {0}) fs → ((a : atom.Atom) → IsIn a (atoms_of fs) → IsPolynomial a.poly) → ArePlainWith (λ a. IsPolynomial a.poly) fs
+  plain_over_each no_more plain over = tt
+  plain_over_each (more f fs) plain over =
+      (plain_over f plain.0 (λ a i. over a (in_left a (atoms f) (atoms_of fs) i)), plain_over_each fs plain.1 (λ a i. over a (in_right a (atoms f) (atoms_of fs) i)))
+
+-- where the atoms are those of some items
+module _ {X : Type 0} (shown : X → atom.Atom) (f : Formula) (items : List X) (all : map shown items ≡ atoms f) (canonical : (k : ℕ) (d : X) → k < length items → IsPolynomial (shown (get_or items k d)).poly) where
+  each_canonical : (a : atom.Atom) → IsIn a (atoms f) → IsPolynomial a.poly
+  each_canonical a i =
+      let r = of_map shown a items (subst (IsIn a) (sym all) i) in
+      subst (λ b. IsPolynomial b.poly) r.2 (of_all (λ y. IsPolynomial (shown y).poly) items canonical r.0 r.1)
+
+  pub made_canonical : IsPlain f → IsPlainWith (λ a. IsPolynomial a.poly) f
+  made_canonical plain = plain_over f plain each_canonical
+
+  -- those that are made
+  pub made_complete : (x : ℕ) (cs : List Candidate) → cs ≡ candidates x f → IsPlain f → degree x f ≤ 2 → IsComplete x f cs
+  made_complete x cs made plain low = subst (IsComplete x f) (sym made) (candidates_complete x f plain low each_canonical)

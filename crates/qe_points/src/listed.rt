@@ -3,7 +3,7 @@
 ghost use Rattle.std.specs.Prelude.{◌≡◌, ◌≤◌, ◌++◌, ◌∷◌, [], true, false, IfOk, OnOk, All, map};
 ghost use Rattle.qe_poly.specs.Polynomial.{IsPolynomial};
 ghost use Rattle.qe_form.specs.Measures.{degree};
-ghost use Rattle.qe_form.specs.Plain.{IsPlain};
+ghost use Rattle.qe_form.specs.Plain.{IsPlain, IsPlainWith};
 ghost use Rattle.qe_form.specs.Tree.{tree, trees};
 ghost use Rattle.qe_root.specs.Atoms as formula;
 ghost use Rattle.qe_points.specs.Candidates as spec;
@@ -146,12 +146,13 @@ fn add_each(
 /// them; then what is just above the roots of those of the other atoms, in the same order; last what is below all numbers. A
 /// polynomial of degree one gives its root, one of degree two `Linear`, `Upper` and `Lower`, and one of a higher degree nothing.
 /// Each keeps the number of the first atom of its group that has the polynomial; all atoms of the formula are numbered from 0, from
-/// left to right. `Err` for want of memory alone.
+/// left to right. The clause `canonical` tells what the formula's type keeps. `Err` for want of memory alone.
 pub fn candidates(alloc: Global, form: &Form, x: Var) -> Result<Vec<Candidate>, OutOfMemory>
     ensures exact { IfOk result (λ cs. cs.items ≡ spec.candidates x.0 (tree form.now)) }
     ensures each { IfOk result (λ cs. All (IsOf x.0 (tree form.now)) cs.items) }
     ensures complete { IfOk result (λ cs. IsPlain (tree form.now) → degree x.0 (tree form.now) ≤ 2
         → IsComplete x.0 (tree form.now) cs.items) }
+    ensures canonical { IfOk result (λ _. IsPlain (tree form.now) → IsPlainWith (λ a. IsPolynomial a.poly) (tree form.now)) }
 {
     let mut atoms = Vec::new(alloc);
     gather(form, &mut atoms)?;

@@ -16,7 +16,7 @@ returns-in-Ok-clause-answer g c =
 
 pub returns-in-Ok-clause-truth : goal.returns-in-Ok-clause-truth
 returns-in-Ok-clause-truth g c =
-    successors_true c.node.inside.vars (tree c.node.inside.form) c.args.node.now c.in-Ok.list.items c.node.view_is c.node.invariant c.look_at.ensures (returns-in-Ok-clause-answer g c)
+    successors_true c.node.inside.vars (tree c.node.inside.form) c.args.node.now c.in-Ok.list.items c.node.view_is c.node.invariant c.in-Ok.ensures.canonical (returns-in-Ok-clause-answer g c)
 
 pub returns-in-Err-Failed-clause-answer : goal.returns-in-Err-Failed-clause-answer
 returns-in-Err-Failed-clause-answer g c =

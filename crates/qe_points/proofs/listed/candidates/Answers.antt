@@ -4,7 +4,7 @@ use Rattle.qe_form.specs.Tree.{tree}
 use Rattle.qe_root.specs.Atoms.{atoms}
 use Rattle.qe_points.specs.Candidates.{candidates}
 use Rattle.qe_points.proofs.Gathering.{candidates_are}
-use Rattle.qe_points.proofs.Enough.{each_is_of, made_complete}
+use Rattle.qe_points.proofs.Enough.{each_is_of, made_canonical, made_complete}
 use Rattle.qe_points.proofs.listed.candidates.Goals as goal
 
 -- all atoms are gathered
@@ -24,4 +24,7 @@ pub returns-clause-each : goal.returns-clause-each
 returns-clause-each c = each_is_of c.args.x.0 (tree c.args.form.now) c.push.new.self.items (made c)
 
 pub returns-clause-complete : goal.returns-clause-complete
-returns-clause-complete c = made_complete (λ (a : Bor atom.Atom). a.now) c.args.x.0 (tree c.args.form.now) c.deref.result.now c.push.new.self.items (gathered c) c.in_ok-groups.ensures.canonical (made c)
+returns-clause-complete c = made_complete (λ (a : Bor atom.Atom). a.now) (tree c.args.form.now) c.deref.result.now (gathered c) c.in_ok-groups.ensures.canonical c.args.x.0 c.push.new.self.items (made c)
+
+pub returns-clause-canonical : goal.returns-clause-canonical
+returns-clause-canonical c = made_canonical (λ (a : Bor atom.Atom). a.now) (tree c.args.form.now) c.deref.result.now (gathered c) c.in_ok-groups.ensures.canonical
