@@ -180,7 +180,7 @@ joined_mark Workers value = refl
 joined_mark Nodes value = refl
 joined_mark Number value = refl
 
-mode_mark : (mode : Mode) → mark (mode_name mode) ≡ bare
+pub mode_mark : (mode : Mode) → IsBare (mode_name mode)
 mode_mark Eliminate = refl
 mode_mark Answers = refl
 mode_mark Summary = refl
