@@ -1,288 +1,288 @@
-//! Substitutions worked out by hand. The variables are `a`, `b`, `c` and `x`, numbered from 0, and `x` is substituted.
+//! Substitutions of `x`, worked out by hand.
 
-use crate::built::{
-    A, AT_LEAST, AT_MOST, B, C, EQUAL, LESS, Linear, MORE, NOT_EQUAL, ONE, X, ZERO, quadratic,
-    root, signs_of,
-};
-use crate::spelled::{is_text, push_form};
+use crate::built::{AT_LEAST, AT_MOST, EQUAL, LESS, MORE, NOT_EQUAL, X, poly, root, signs_of};
+use crate::spelled::{form_text, is_text};
 use qe_form::Atom;
-use qe_subst::{Form, OutOfMemory, Point, Poly, PolyStop, SubstStop, substitute};
+use qe_subst::{Form, OutOfMemory, Point, Poly, SubstStop, substitute};
 use std::alloc::Global;
 
-const MINUS_A: Linear = [-1, 0, 0, 0];
-
-const MINUS_B: Linear = [0, -1, 0, 0];
-
-const TWICE_B: Linear = [0, 2, 0, 0];
-
-/// The formula; no limit is met.
-fn outcome_text(alloc: Global, outcome: Result<Form, SubstStop>) -> Result<String, OutOfMemory> {
-    let mut out = String::new(alloc);
-    match outcome {
-        Ok(form) => push_form(&mut out, &form)?,
-        Err(_) => out.push_str("stopped")?,
-    }
-    Ok(out)
+/// Where a test point lies.
+#[derive(Clone, Copy)]
+enum Place {
+    /// At a root, which is given by the texts of p, q, r and s.
+    At,
+    /// Just above one.
+    Above,
+    /// Below all numbers.
+    Below,
 }
 
-/// What stands for one atom, as text.
-fn atom_text(
+use Place::{Above, At, Below};
+
+/// `a`, a root without a square root.
+const A: [&str; 4] = ["a", "0", "0", "1"];
+
+/// `b + sqrt(c)`
+const B_AND_ROOT_OF_C: [&str; 4] = ["b", "1", "c", "1"];
+
+/// 0, as the root of `2*b*x`.
+const ZERO: [&str; 4] = ["0", "0", "0", "2*b"];
+
+fn point_of(alloc: Global, place: Place, parts: [&str; 4]) -> Result<Point, OutOfMemory> {
+    let root = root(alloc, parts)?;
+    match place {
+        At => Ok(Point::Root(root)),
+        Above => Ok(Point::RootPlus(root)),
+        Below => Ok(Point::MinusInf),
+    }
+}
+
+/// What stands for one atom.
+fn atom_at(
     alloc: Global,
     poly: Poly,
     bits: u8,
     point: &Point,
     own: Option<&Poly>,
-) -> Result<String, OutOfMemory> {
+) -> Result<Form, SubstStop> {
     let signs = signs_of(bits);
     let is_low = poly.degree_in(X) <= 2;
     let form = Form::Atom(Atom { poly, signs });
     if is_low && 0 < signs.bits() && signs.bits() < 7 {
-        outcome_text(alloc, substitute(alloc, &form, X, point, own))
+        substitute(alloc, &form, X, point, own)
     } else {
-        Ok(String::new(alloc))
+        Err(SubstStop::TooLarge)
     }
 }
 
-/// The root, or what is just above it.
-fn point_of(alloc: Global, parts: [Linear; 4], plus: bool) -> Result<Point, PolyStop> {
-    let root = root(alloc, parts)?;
-    if plus {
-        Ok(Point::RootPlus(root))
-    } else {
-        Ok(Point::Root(root))
-    }
+/// The same with `2*b*x` as the polynomial that the root comes from.
+fn atom_at_own(alloc: Global, atom: Poly, bits: u8, point: &Point) -> Result<Form, SubstStop> {
+    let own = poly(alloc, "2*b*x")?;
+    atom_at(alloc, atom, bits, point, Some(&own))
 }
 
-/// What stands for an atom at the point.
-fn poly_text(
+/// What stands for the atom on the polynomial of this text.
+fn row_form(
     alloc: Global,
-    coefficients: [Linear; 3],
+    text: &str,
     bits: u8,
     point: &Point,
-) -> Result<String, PolyStop> {
-    let poly = quadratic(alloc, coefficients)?;
-    Ok(atom_text(alloc, poly, bits, point, None)?)
+    is_own: bool,
+) -> Result<Form, SubstStop> {
+    let atom = poly(alloc, text)?;
+    if is_own {
+        atom_at_own(alloc, atom, bits, point)
+    } else {
+        atom_at(alloc, atom, bits, point, None)
+    }
 }
 
-/// What stands for an atom at a root, or just above it.
-fn root_text(
-    alloc: Global,
-    coefficients: [Linear; 3],
-    bits: u8,
-    parts: [Linear; 4],
-    plus: bool,
-) -> Result<String, PolyStop> {
-    let point = point_of(alloc, parts, plus)?;
-    poly_text(alloc, coefficients, bits, &point)
+fn row_text(alloc: Global, row: &Row, is_own: bool) -> Result<String, SubstStop> {
+    let (text, bits, place, parts, _) = *row;
+    let point = point_of(alloc, place, parts)?;
+    let form = row_form(alloc, text, bits, &point, is_own)?;
+    Ok(form_text(alloc, &form)?)
 }
 
-/// What stands for an atom at 0, or just above it, as the root of 2*b*x.
-fn own_text(
-    alloc: Global,
-    coefficients: [Linear; 3],
-    bits: u8,
-    plus: bool,
-) -> Result<String, PolyStop> {
-    let own = quadratic(alloc, [ZERO, TWICE_B, ZERO])?;
-    let point = point_of(alloc, [ZERO, ZERO, ZERO, TWICE_B], plus)?;
-    let poly = quadratic(alloc, coefficients)?;
-    Ok(atom_text(alloc, poly, bits, &point, Some(&own))?)
-}
+/// The polynomial, the relation, the place with its parts, and what stands for the atom there.
+type Row = (&'static str, u8, Place, [&'static str; 4], &'static str);
 
-// At a, a root without a square root, and just above it: the coefficients of x^2, x and 1, the relation, and what stands for the atom.
-const AT_A: &[([Linear; 3], u8, bool, &str)] = &[
+const ROWS: &[Row] = &[
     // x - b
-    ([ZERO, ONE, MINUS_B], LESS, false, "a - b < 0"),
-    ([ZERO, ONE, MINUS_B], AT_MOST, false, "a - b <= 0"),
-    ([ZERO, ONE, MINUS_B], EQUAL, false, "a - b = 0"),
-    ([ZERO, ONE, MINUS_B], NOT_EQUAL, false, "a - b <> 0"),
-    ([ZERO, ONE, MINUS_B], AT_LEAST, false, "a - b >= 0"),
-    ([ZERO, ONE, MINUS_B], MORE, false, "a - b > 0"),
+    ("x - b", LESS, At, A, "a - b < 0"),
+    ("x - b", AT_MOST, At, A, "a - b <= 0"),
+    ("x - b", EQUAL, At, A, "a - b = 0"),
+    ("x - b", NOT_EQUAL, At, A, "a - b <> 0"),
+    ("x - b", AT_LEAST, At, A, "a - b >= 0"),
+    ("x - b", MORE, At, A, "a - b > 0"),
     (
-        [ZERO, ONE, MINUS_B],
+        "x - b",
         LESS,
-        true,
+        Above,
+        A,
         "[a - b < 0 or [a - b = 0 and 1 < 0]]",
     ),
     (
-        [ZERO, ONE, MINUS_B],
+        "x - b",
         AT_MOST,
-        true,
+        Above,
+        A,
         "[a - b < 0 or [a - b = 0 and 1 <= 0]]",
     ),
-    ([ZERO, ONE, MINUS_B], EQUAL, true, "[1 = 0 and -b = 0]"),
-    ([ZERO, ONE, MINUS_B], NOT_EQUAL, true, "[1 <> 0 or -b <> 0]"),
+    ("x - b", EQUAL, Above, A, "[1 = 0 and -b = 0]"),
+    ("x - b", NOT_EQUAL, Above, A, "[1 <> 0 or -b <> 0]"),
     (
-        [ZERO, ONE, MINUS_B],
+        "x - b",
         AT_LEAST,
-        true,
+        Above,
+        A,
         "[a - b > 0 or [a - b = 0 and 1 >= 0]]",
     ),
     (
-        [ZERO, ONE, MINUS_B],
+        "x - b",
         MORE,
-        true,
+        Above,
+        A,
         "[a - b > 0 or [a - b = 0 and 1 > 0]]",
     ),
     // b*x^2 + c: its slopes are 2*b*x and 2*b
-    ([B, ZERO, C], LESS, false, "a^2*b + c < 0"),
-    ([B, ZERO, C], EQUAL, true, "[b = 0 and 0 = 0 and c = 0]"),
+    ("b*x^2 + c", LESS, At, A, "a^2*b + c < 0"),
+    ("b*x^2 + c", EQUAL, Above, A, "[b = 0 and 0 = 0 and c = 0]"),
     (
-        [B, ZERO, C],
+        "b*x^2 + c",
         NOT_EQUAL,
-        true,
+        Above,
+        A,
         "[b <> 0 or 0 <> 0 or c <> 0]",
     ),
     (
-        [B, ZERO, C],
+        "b*x^2 + c",
         LESS,
-        true,
+        Above,
+        A,
         "[a^2*b + c < 0 or [a^2*b + c = 0 and [2*a*b < 0 or [2*a*b = 0 and 2*b < 0]]]]",
     ),
     (
-        [B, ZERO, C],
+        "b*x^2 + c",
         AT_LEAST,
-        true,
+        Above,
+        A,
         "[a^2*b + c > 0 or [a^2*b + c = 0 and [2*a*b > 0 or [2*a*b = 0 and 2*b >= 0]]]]",
     ),
     // an atom without x stays
-    ([ZERO, ZERO, B], MORE, false, "b > 0"),
-    ([ZERO, ZERO, B], MORE, true, "b > 0"),
-];
-
-#[test]
-fn substitutes_a_quotient(rt: HostRuntime) {
-    let parts = [A, ZERO, ZERO, ONE];
-    for (coefficients, bits, plus, want) in AT_A {
-        assert!(rt;
-            is_text(
-                root_text(rt.alloc(), *coefficients, *bits, parts, *plus),
-                want
-            )
-        );
-    }
-}
-
-// The same at b + sqrt(c), where the form for the sign of A + B*sqrt(c) is needed.
-const AT_B_AND_ROOT_OF_C: &[([Linear; 3], u8, bool, &str)] = &[
+    ("b", MORE, At, A, "b > 0"),
+    ("b", MORE, Above, A, "b > 0"),
+    // where the form for the sign of A + B*sqrt(c) is needed
     // x - a: A is b - a, B is 1
     (
-        [ZERO, ONE, MINUS_A],
+        "x - a",
         EQUAL,
-        false,
+        At,
+        B_AND_ROOT_OF_C,
         "[-a + b <= 0 and a^2 - 2*a*b + b^2 - c = 0]",
     ),
     (
-        [ZERO, ONE, MINUS_A],
+        "x - a",
         AT_MOST,
-        false,
+        At,
+        B_AND_ROOT_OF_C,
         "[[-a + b <= 0 and a^2 - 2*a*b + b^2 - c >= 0] or [1 <= 0 and a^2 - 2*a*b + b^2 - c <= 0]]",
     ),
     (
-        [ZERO, ONE, MINUS_A],
+        "x - a",
         AT_MOST,
-        true,
+        Above,
+        B_AND_ROOT_OF_C,
         "[[[-a + b < 0 and a^2 - 2*a*b + b^2 - c > 0] or [1 <= 0 and [-a + b < 0 or a^2 - 2*a*b + b^2 - c < 0]]] or [[-a + b <= 0 and a^2 - 2*a*b + b^2 - c = 0] and 1 <= 0]]",
     ),
     // x^2 - a: A is b^2 + c - a, B is 2*b
     (
-        [ONE, ZERO, MINUS_A],
+        "x^2 - a",
         NOT_EQUAL,
-        false,
+        At,
+        B_AND_ROOT_OF_C,
         "[-2*a*b + 2*b^3 + 2*b*c > 0 or a^2 - 2*a*b^2 - 2*a*c + b^4 - 2*b^2*c + c^2 <> 0]",
     ),
-];
-
-#[test]
-fn substitutes_a_square_root(rt: HostRuntime) {
-    let parts = [B, ONE, C, ONE];
-    for (coefficients, bits, plus, want) in AT_B_AND_ROOT_OF_C {
-        assert!(rt;
-            is_text(
-                root_text(rt.alloc(), *coefficients, *bits, parts, *plus),
-                want
-            )
-        );
-    }
-}
-
-// The coefficients of x^2, x and 1, the relation, and what stands for the atom below all numbers.
-const BELOW: &[([Linear; 3], u8, &str)] = &[
-    ([ZERO, A, B], LESS, "[a > 0 or [a = 0 and b < 0]]"),
-    ([ZERO, A, B], AT_MOST, "[a > 0 or [a = 0 and b <= 0]]"),
-    ([ZERO, A, B], EQUAL, "[a = 0 and b = 0]"),
-    ([ZERO, A, B], NOT_EQUAL, "[a <> 0 or b <> 0]"),
-    ([ZERO, A, B], AT_LEAST, "[a < 0 or [a = 0 and b >= 0]]"),
-    ([ZERO, A, B], MORE, "[a < 0 or [a = 0 and b > 0]]"),
+    // below all numbers
+    ("a*x + b", LESS, Below, ZERO, "[a > 0 or [a = 0 and b < 0]]"),
     (
-        [A, B, C],
+        "a*x + b",
+        AT_MOST,
+        Below,
+        ZERO,
+        "[a > 0 or [a = 0 and b <= 0]]",
+    ),
+    ("a*x + b", EQUAL, Below, ZERO, "[a = 0 and b = 0]"),
+    ("a*x + b", NOT_EQUAL, Below, ZERO, "[a <> 0 or b <> 0]"),
+    (
+        "a*x + b",
+        AT_LEAST,
+        Below,
+        ZERO,
+        "[a < 0 or [a = 0 and b >= 0]]",
+    ),
+    ("a*x + b", MORE, Below, ZERO, "[a < 0 or [a = 0 and b > 0]]"),
+    (
+        "a*x^2 + b*x + c",
         LESS,
+        Below,
+        ZERO,
         "[a < 0 or [a = 0 and b > 0] or [a = 0 and b = 0 and c < 0]]",
     ),
     (
-        [A, B, C],
+        "a*x^2 + b*x + c",
         AT_MOST,
+        Below,
+        ZERO,
         "[a < 0 or [a = 0 and b > 0] or [a = 0 and b = 0 and c <= 0]]",
     ),
-    ([A, B, C], EQUAL, "[a = 0 and b = 0 and c = 0]"),
-    ([A, B, C], NOT_EQUAL, "[a <> 0 or b <> 0 or c <> 0]"),
     (
-        [A, B, C],
+        "a*x^2 + b*x + c",
+        EQUAL,
+        Below,
+        ZERO,
+        "[a = 0 and b = 0 and c = 0]",
+    ),
+    (
+        "a*x^2 + b*x + c",
+        NOT_EQUAL,
+        Below,
+        ZERO,
+        "[a <> 0 or b <> 0 or c <> 0]",
+    ),
+    (
+        "a*x^2 + b*x + c",
         AT_LEAST,
+        Below,
+        ZERO,
         "[a > 0 or [a = 0 and b < 0] or [a = 0 and b = 0 and c >= 0]]",
     ),
     (
-        [A, B, C],
+        "a*x^2 + b*x + c",
         MORE,
+        Below,
+        ZERO,
         "[a > 0 or [a = 0 and b < 0] or [a = 0 and b = 0 and c > 0]]",
     ),
-    ([ZERO, ZERO, C], EQUAL, "c = 0"),
+    ("c", EQUAL, Below, ZERO, "c = 0"),
 ];
 
 #[test]
-fn substitutes_minus_infinity(rt: HostRuntime) {
-    for (coefficients, bits, want) in BELOW {
-        assert!(rt;
-            is_text(
-                poly_text(rt.alloc(), *coefficients, *bits, &Point::MinusInf),
-                want
-            )
-        );
+fn substitutes_a_point(rt: HostRuntime) {
+    for row in ROWS {
+        assert!(rt; is_text(row_text(rt.alloc(), row, false).ok(), row.4));
     }
 }
 
-// The point is 0, as the root of 2*b*x. The coefficients of x^2, x and 1, the relation, and what stands for the atom.
-const AT_OWN: &[([Linear; 3], u8, bool, &str)] = &[
-    ([ZERO, TWICE_B, ZERO], LESS, false, "false"),
-    ([ZERO, TWICE_B, ZERO], AT_MOST, false, "true"),
-    ([ZERO, TWICE_B, ZERO], EQUAL, false, "true"),
-    ([ZERO, TWICE_B, ZERO], NOT_EQUAL, false, "false"),
+// Here the root comes from `2*b*x`.
+const OWN_ROWS: &[Row] = &[
+    ("2*b*x", LESS, At, ZERO, "false"),
+    ("2*b*x", AT_MOST, At, ZERO, "true"),
+    ("2*b*x", EQUAL, At, ZERO, "true"),
+    ("2*b*x", NOT_EQUAL, At, ZERO, "false"),
+    ("2*b*x", LESS, Above, ZERO, "[false or [true and 2*b < 0]]"),
     (
-        [ZERO, TWICE_B, ZERO],
-        LESS,
-        true,
-        "[false or [true and 2*b < 0]]",
-    ),
-    (
-        [ZERO, TWICE_B, ZERO],
+        "2*b*x",
         AT_LEAST,
-        true,
+        Above,
+        ZERO,
         "[false or [true and 2*b >= 0]]",
     ),
-    ([ZERO, TWICE_B, ZERO], EQUAL, true, "[2*b = 0 and 0 = 0]"),
+    ("2*b*x", EQUAL, Above, ZERO, "[2*b = 0 and 0 = 0]"),
     // it is the slope of b*x^2 + c, whose value at 0 is (2*b)^2*c over the square of the divisor
-    ([B, ZERO, C], LESS, false, "4*b^2*c < 0"),
+    ("b*x^2 + c", LESS, At, ZERO, "4*b^2*c < 0"),
     (
-        [B, ZERO, C],
+        "b*x^2 + c",
         LESS,
-        true,
+        Above,
+        ZERO,
         "[4*b^2*c < 0 or [4*b^2*c = 0 and [false or [true and 2*b < 0]]]]",
     ),
 ];
 
 #[test]
 fn knows_the_own_polynomial(rt: HostRuntime) {
-    for (coefficients, bits, plus, want) in AT_OWN {
-        assert!(rt; is_text(own_text(rt.alloc(), *coefficients, *bits, *plus), want));
+    for row in OWN_ROWS {
+        assert!(rt; is_text(row_text(rt.alloc(), row, true).ok(), row.4));
     }
 }
