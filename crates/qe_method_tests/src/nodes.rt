@@ -1,26 +1,28 @@
 //! Nodes and their successors on small formulas, worked out by hand.
 
-ghost use Rattle.std.specs.Prelude.{◌≡◌, ◌≤◌, IfOk};
+ghost use Rattle.std.specs.Prelude.{◌≡◌, ◌≤◌, true, IfOk};
 ghost use Rattle.qe_form.specs.Formula.{more, no_more};
 ghost use Rattle.qe_form.specs.Measures.{count};
 ghost use Rattle.qe_form.specs.Plain.{IsPlainAndProper};
 ghost use Rattle.qe_form.specs.Signs.{IsProper};
 ghost use Rattle.qe_form.specs.Tree.{tree, trees};
 
-use crate::built::{AT_MOST, EQUAL, LESS, NOT_EQUAL, X, poly};
-use crate::spelled::{is_text, push_form};
+use crate::built::{AT_MOST, EQUAL, LESS, NOT_EQUAL, coef};
+use qe_coef::Coef;
 use qe_form::{Atom, Forms, Signs};
 use qe_node::{
-    Expander, Form, Made, Maker, Never, Next, Node, OutOfMemory, Piece, Sequence, Stop, root,
+    Expander, Form, Made, Maker, Never, Next, Node, OutOfMemory, Piece, Sequence, Stop, Var, root,
     successors,
 };
-use qe_poly::Poly;
+use qe_poly::{Poly, PolyStop};
 use std::alloc::Global;
-use std::fmt::Write;
 use std::hash::{DefaultHasher, Hash, Hasher};
 
-/// A polynomial, and the bits of the signs that it may have.
-type Row = (&'static str, u8);
+/// The sum of terms, each a number times variables, and the bits of the signs that the sum may have.
+type Row = (&'static [(i128, &'static [u32])], u8);
+
+/// The formulas of successors, each an And of atoms.
+type Wants = &'static [&'static [Row]];
 
 /// A formula that a node is made of.
 #[derive(Clone, Copy)]
@@ -30,11 +32,33 @@ enum Given {
     Either(Row, Row),
 }
 
-const GENERAL: Given = Given::One(("a*x^2 + b*x + c", EQUAL));
+/// `a*x^2 + b*x + c = 0` with `a`, `b`, `c` and `x` as the variables 0 to 3.
+const GENERAL: Given = Given::One((&[(1, &[0, 3, 3]), (1, &[1, 3]), (1, &[2])], EQUAL));
 
-const BETWEEN: Given = Given::Both(("a - x", LESS), ("x - b", LESS));
+/// `x > a and x < b` with `a`, `b` and `x` as the variables 0 to 2.
+const BETWEEN: Given = Given::Both(
+    (&[(1, &[0]), (-1, &[2])], LESS),
+    (&[(1, &[2]), (-1, &[1])], LESS),
+);
 
-const ONE_OF_TWO: Given = Given::Either(("x", EQUAL), ("x - a", EQUAL));
+/// `x = 0 or x = a` with `a` and `x` as the variables 0 and 2.
+const ONE_OF_TWO: Given = Given::Either((&[(1, &[2])], EQUAL), (&[(1, &[2]), (-1, &[0])], EQUAL));
+
+fn product(alloc: Global, number: i128, vars: &[u32]) -> Result<Poly, PolyStop> {
+    let mut product = Poly::constant(alloc, coef(number))?;
+    for var in vars {
+        product = product.mul(alloc, &Poly::power(alloc, Var(*var), 1)?)?;
+    }
+    Ok(product)
+}
+
+fn sum(alloc: Global, terms: &[(i128, &[u32])]) -> Result<Poly, PolyStop> {
+    let mut sum = Poly::constant(alloc, Coef::zero())?;
+    for (number, vars) in terms {
+        sum = sum.add(alloc, &product(alloc, *number, vars)?)?;
+    }
+    Ok(sum)
+}
 
 fn signs_of(bits: u8) -> Signs
     ensures { IsProper result }
@@ -55,12 +79,12 @@ fn atom_of(poly: Poly, bits: u8) -> Form
     Form::Atom(Atom { poly, signs })
 }
 
-fn atom(alloc: Global, row: Row) -> Result<Form, OutOfMemory>
+fn atom(alloc: Global, row: Row) -> Result<Form, PolyStop>
     ensures proper { IfOk result (λ f. IsPlainAndProper (tree f)) }
     ensures small { IfOk result (λ f. count (tree f) ≡ 1) }
 {
-    let (text, bits) = row;
-    Ok(atom_of(poly(alloc, text)?, bits))
+    let (terms, bits) = row;
+    Ok(atom_of(sum(alloc, terms)?, bits))
 }
 
 fn two(alloc: Global, left: Form, right: Form) -> Result<Forms, OutOfMemory>
@@ -72,7 +96,7 @@ fn two(alloc: Global, left: Form, right: Form) -> Result<Forms, OutOfMemory>
     Ok(parts)
 }
 
-fn pair_of(alloc: Global, is_and: bool, first: Row, second: Row) -> Result<Form, OutOfMemory>
+fn pair_of(alloc: Global, is_and: bool, first: Row, second: Row) -> Result<Form, PolyStop>
     ensures proper { IfOk result (λ f. IsPlainAndProper (tree f)) }
     ensures small { IfOk result (λ f. count (tree f) ≡ 2) }
 {
@@ -86,7 +110,7 @@ fn pair_of(alloc: Global, is_and: bool, first: Row, second: Row) -> Result<Form,
     }
 }
 
-fn form_of(alloc: Global, given: Given) -> Result<Form, OutOfMemory>
+fn form_of(alloc: Global, given: Given) -> Result<Form, PolyStop>
     ensures proper { IfOk result (λ f. IsPlainAndProper (tree f)) }
     ensures small { IfOk result (λ f. count (tree f) ≤ 2) }
 {
@@ -97,50 +121,92 @@ fn form_of(alloc: Global, given: Given) -> Result<Form, OutOfMemory>
     }
 }
 
-/// The node of a formula with the variable `x`.
-fn node_of(alloc: Global, given: Given) -> Result<Node, OutOfMemory> {
+/// The node of a formula with one variable.
+fn node_of(alloc: Global, x: u32, given: Given) -> Result<Node, PolyStop> {
     let form = form_of(alloc, given)?;
-    root(alloc, &[X], form)
+    Ok(root(alloc, &[Var(x)], form)?)
 }
 
-/// The number and the formula of a successor.
-fn push_next(out: &mut String, next: &Next<Node>) -> Result<(), OutOfMemory> {
-    write!(out, "{}: ", next.point)?;
-    push_form(out, &next.piece.form)?;
-    out.push_str("; ")
-}
-
-fn push_made(out: &mut String, made: &Made<Node>) -> Result<(), OutOfMemory> {
-    let Made::Successors(list) = made else {
-        return Ok(());
-    };
-    for next in list {
-        push_next(out, next)?;
+fn atoms(alloc: Global, rows: &'static [Row]) -> Result<Forms, PolyStop> {
+    let mut parts = Sequence::new(alloc);
+    for row in rows {
+        parts.push(atom(alloc, *row)?)?;
     }
-    Ok(())
+    Ok(parts)
 }
 
-fn made_text(alloc: Global, given: Given) -> Result<String, OutOfMemory> {
-    let node = node_of(alloc, given)?;
-    let mut out = String::new(alloc);
-    push_made(&mut out, &successors(alloc, &node))?;
-    Ok(out)
+/// The And of the atoms: an atom where there is one, and True where there is none.
+fn joined(alloc: Global, rows: &'static [Row]) -> Result<Form, PolyStop> {
+    match rows {
+        [] => Ok(Form::True),
+        [row] => atom(alloc, *row),
+        _ => Ok(Form::And(atoms(alloc, rows)?)),
+    }
 }
 
-const ROWS: &[(Given, &str)] = &[
-    (
-        GENERAL,
-        "0: [a = 0 and b <> 0]; 1: [4*a*c - b^2 <= 0 and a <> 0]; 2: [4*a*c - b^2 <= 0 and a <> 0]; 3: [a = 0 and b = 0 and c = 0]; ",
-    ),
-    (BETWEEN, "0: a - b < 0; "),
-    // true ends the list
-    (ONE_OF_TWO, "0: true; "),
+/// The successor at this place has this number and this formula, and no variables.
+fn is_at(list: &[Next<Node>], place: usize, form: &Form) -> bool {
+    match list.get(place) {
+        Some(next) => next.point == place as u64
+            && next.piece.form == *form
+            && next.piece.is_leaf(),
+        None => false,
+    }
+}
+
+/// The successors have these formulas, with the numbers from 0 on, and no variables.
+fn are_these(alloc: Global, list: &[Next<Node>], wants: Wants) -> Result<bool, PolyStop> {
+    for (place, want) in wants.iter().enumerate() {
+        if !is_at(list, place, &joined(alloc, want)?) {
+            return Ok(false);
+        }
+    }
+    Ok(list.len() == wants.len())
+}
+
+fn gives(alloc: Global, x: u32, given: Given, wants: Wants) -> Result<bool, PolyStop> {
+    let node = node_of(alloc, x, given)?;
+    let made = successors(alloc, &node);
+    match &made {
+        Made::Successors(list) => are_these(alloc, list, wants),
+        _ => Ok(false),
+    }
+}
+
+const OF_GENERAL: Wants = &[
+    &[(&[(1, &[0])], EQUAL), (&[(1, &[1])], NOT_EQUAL)],
+    &[
+        (&[(4, &[0, 2]), (-1, &[1, 1])], AT_MOST),
+        (&[(1, &[0])], NOT_EQUAL),
+    ],
+    &[
+        (&[(4, &[0, 2]), (-1, &[1, 1])], AT_MOST),
+        (&[(1, &[0])], NOT_EQUAL),
+    ],
+    &[
+        (&[(1, &[0])], EQUAL),
+        (&[(1, &[1])], EQUAL),
+        (&[(1, &[2])], EQUAL),
+    ],
+];
+
+/// `a < b`.
+const OF_BETWEEN: Wants = &[&[(&[(1, &[0]), (-1, &[1])], LESS)]];
+
+/// True ends the list.
+const OF_ONE_OF_TWO: Wants = &[&[]];
+
+// The variable, the formula and its successors.
+const ROWS: &[(u32, Given, Wants)] = &[
+    (3, GENERAL, OF_GENERAL),
+    (2, BETWEEN, OF_BETWEEN),
+    (2, ONE_OF_TWO, OF_ONE_OF_TWO),
 ];
 
 #[test]
 fn gives_successors(rt: HostRuntime) {
-    for (given, want) in ROWS {
-        assert!(rt; is_text(made_text(rt.alloc(), *given).ok(), want));
+    for (x, given, wants) in ROWS {
+        assert!(rt; matches!(gives(rt.alloc(), *x, *given, wants), Ok(true)));
     }
 }
 
@@ -158,14 +224,16 @@ fn is_copied<N: Piece>(alloc: Global, piece: &N, rank: u64) -> bool {
     }
 }
 
-fn is_node_copied(alloc: Global) -> Result<bool, OutOfMemory> {
-    let node = node_of(alloc, GENERAL)?;
-    Ok(!node.is_leaf() && is_copied(alloc, &node, 1))
+/// Whether the node has the variable, which occurs, and is copied.
+fn is_inner(alloc: Global, x: u32, given: Given) -> Result<bool, PolyStop> {
+    let node = node_of(alloc, x, given)?;
+    let has_it = node.vars.items() == [Var(x)].as_slice();
+    Ok(has_it && !node.is_leaf() && is_copied(alloc, &node, 1))
 }
 
 #[test]
 fn copies_a_node(rt: HostRuntime) {
-    assert!(rt; matches!(is_node_copied(rt.alloc()), Ok(true)));
+    assert!(rt; matches!(is_inner(rt.alloc(), 3, GENERAL), Ok(true)));
 }
 
 /// Whether the piece is no leaf and is expanded, through the bounds.
@@ -184,8 +252,8 @@ fn is_expanded<N: Piece, M: Maker<N>, T: Stop>(
     }
 }
 
-fn is_node_expanded(alloc: Global) -> Result<bool, OutOfMemory> {
-    let node = node_of(alloc, ONE_OF_TWO)?;
+fn is_node_expanded(alloc: Global) -> Result<bool, PolyStop> {
+    let node = node_of(alloc, 2, ONE_OF_TWO)?;
     Ok(is_expanded(alloc, &Expander, &node, &mut Never))
 }
 

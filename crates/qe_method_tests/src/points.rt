@@ -1,13 +1,16 @@
-//! Candidates, guards and points, worked out by hand.
+//! Candidates, guards and points, worked out by hand. The variables are `a`, `b`, `c` and `x`, numbered from 0.
 
-use crate::built::{X, poly, read_input};
-use crate::spelled::{is_text, push_form, push_poly};
+use crate::built::{A, B, C, Linear, ONE, X, ZERO, quadratic, read_input};
+use crate::spelled::{push_form, push_poly};
 use qe_points::{
     Candidate, Form, GuardedPoint, OutOfMemory, Point, Poly, RootPoint, SubstStop, Which,
     candidates, guarded,
 };
 use std::alloc::Global;
 use std::fmt::Write;
+
+/// A polynomial in `x` by its coefficients of `x^2`, `x` and 1, each `numbers[0]*a + numbers[1]*b + numbers[2]*c + numbers[3]`.
+type Numbers = [Linear; 3];
 
 /// A candidate as `upper+ 2: POLY`, with the number of its atom.
 fn push_candidate(out: &mut String, candidate: &Candidate) -> Result<(), OutOfMemory> {
@@ -65,21 +68,26 @@ fn push_point(out: &mut String, point: &Point) -> Result<(), OutOfMemory> {
     }
 }
 
-/// The guard, and then the point.
-fn push_guarded(out: &mut String, found: &GuardedPoint) -> Result<(), OutOfMemory> {
-    push_form(out, &found.guard)?;
-    out.push_str(": ")?;
-    push_point(out, &found.point)
-}
-
-/// Both, and `none` where there is none.
-fn guarded_text(alloc: Global, found: &Option<GuardedPoint>) -> Result<String, OutOfMemory> {
+/// The guard, and then the point; `none` where there is none.
+fn guarded_text(alloc: Global, found: Option<GuardedPoint>) -> Result<String, OutOfMemory> {
     let mut out = String::new(alloc);
     match found {
-        Some(found) => push_guarded(&mut out, found)?,
+        Some(found) => {
+            push_form(&mut out, &found.guard)?;
+            out.push_str(": ")?;
+            push_point(&mut out, &found.point)?;
+        }
         None => out.push_str("none")?,
     }
     Ok(out)
+}
+
+/// The polynomial; no limit is met.
+fn general(alloc: Global, numbers: Numbers) -> Result<Poly, SubstStop> {
+    match quadratic(alloc, numbers) {
+        Ok(poly) => Ok(poly),
+        Err(_) => Err(SubstStop::OutOfMemory),
+    }
 }
 
 /// The guard and the point of the candidate at a root of the polynomial, with the atom number 7.
@@ -135,10 +143,26 @@ fn guarded_root(
     }
 }
 
+/// `a*x^2 + b*x + c`
+const GENERAL: Numbers = [A, B, C];
+
+/// `a - x`
+const TO_A: Numbers = [ZERO, [0, 0, 0, -1], A];
+
+/// `b - x^2`
+const SQUARE: Numbers = [[0, 0, 0, -1], ZERO, B];
+
 /// The candidates of the formula, as text.
 fn listed_text(alloc: Global, text: &str) -> Result<String, OutOfMemory> {
     let input = read_input(alloc, text)?;
     candidates_text(alloc, &input.form)
+}
+
+fn is_listed(alloc: Global, text: &str, want: &str) -> bool {
+    match listed_text(alloc, text) {
+        Ok(found) => found.as_str() == want,
+        Err(_) => false,
+    }
 }
 
 // Each formula has the free names a, b, c and x.
@@ -167,71 +191,83 @@ const LISTS: &[(&str, &str)] = &[
 #[test]
 fn lists_candidates(rt: HostRuntime) {
     for (text, want) in LISTS {
-        assert!(rt; is_text(listed_text(rt.alloc(), text).ok(), want));
+        assert!(rt; is_listed(rt.alloc(), text, want));
     }
 }
 
-/// The guard and the point of the candidate at a root, as text.
-fn found_text(alloc: Global, text: &str, which: Which, plus: bool) -> Result<String, SubstStop> {
-    let poly = poly(alloc, text)?;
+fn found_text(
+    alloc: Global,
+    numbers: Numbers,
+    which: Which,
+    plus: bool,
+) -> Result<String, SubstStop> {
+    let poly = general(alloc, numbers)?;
     let found = guarded_root(alloc, poly, which, plus)?;
-    Ok(guarded_text(alloc, &found)?)
+    Ok(guarded_text(alloc, found)?)
 }
 
-const GUARDS: &[(&str, Which, bool, &str)] = &[
+/// The guard and the point of the candidate at a root, as text.
+fn is_found(alloc: Global, numbers: Numbers, which: Which, plus: bool, want: &str) -> bool {
+    match found_text(alloc, numbers, which, plus) {
+        Ok(text) => text.as_str() == want,
+        Err(_) => false,
+    }
+}
+
+const GUARDS: &[(Numbers, Which, bool, &str)] = &[
     (
-        "a*x^2 + b*x + c",
+        GENERAL,
         Which::Linear,
         false,
         "[a = 0 and b <> 0]: (-c + (0)*sqrt(0))/(b)",
     ),
     (
-        "a*x^2 + b*x + c",
+        GENERAL,
         Which::Upper,
         false,
         "[4*a*c - b^2 <= 0 and a <> 0]: (-b + (1)*sqrt(-4*a*c + b^2))/(2*a)",
     ),
     (
-        "a*x^2 + b*x + c",
+        GENERAL,
         Which::Lower,
         true,
         "[4*a*c - b^2 <= 0 and a <> 0]: (-b + (-1)*sqrt(-4*a*c + b^2))/(2*a)+",
     ),
     // -1 is negated
-    ("a - x", Which::Linear, true, "true: (a + (0)*sqrt(0))/(1)+"),
+    (TO_A, Which::Linear, true, "true: (a + (0)*sqrt(0))/(1)+"),
     (
-        "b - x^2",
+        SQUARE,
         Which::Upper,
         false,
         "b >= 0: (0 + (-1)*sqrt(4*b))/(2)",
     ),
     (
-        "b - x^2",
+        SQUARE,
         Which::Lower,
         false,
         "b >= 0: (0 + (1)*sqrt(4*b))/(2)",
     ),
     // b*x + c of degree one, and x^2 - 2
     (
-        "b*x + c",
+        [ZERO, B, C],
         Which::Linear,
         false,
         "b <> 0: (-c + (0)*sqrt(0))/(b)",
     ),
     (
-        "x^2 - 2",
+        [ONE, ZERO, [0, 0, 0, -2]],
         Which::Upper,
         false,
         "true: (0 + (1)*sqrt(8))/(2)",
     ),
     // x^2 + 1 has neither a root of degree one nor one of degree two
-    ("x^2 + 1", Which::Linear, false, "none"),
-    ("x^2 + 1", Which::Lower, false, "none"),
+    ([ONE, ZERO, ONE], Which::Linear, false, "none"),
+    ([ONE, ZERO, ONE], Which::Lower, false, "none"),
 ];
 
 #[test]
 fn gives_guards_and_points(rt: HostRuntime) {
-    for (text, which, plus, want) in GUARDS {
-        assert!(rt; is_text(found_text(rt.alloc(), text, *which, *plus).ok(), want));
+    for (numbers, which, plus, want) in GUARDS {
+        assert!(rt; is_found(rt.alloc(), *numbers, *which, *plus, want));
     }
 }

@@ -1,22 +1,16 @@
-//! Polynomials: each operation that needs memory, once to its end.
+//! Polynomials: each operation that needs memory, once to its end. Constants, powers, sums, products and multiples build what
+//! the others are given.
 
-use crate::built::{X, poly};
-use crate::spelled::{is_text, poly_text};
-use qe_coef::Coef;
+use crate::built::{Linear, ONE, X, ZERO, linear, quadratic};
+use crate::spelled::{is_text, push_poly};
 use qe_poly::{Poly, PolyStop, Var};
 use std::alloc::Global;
 
 #[derive(Clone, Copy)]
 enum Operation {
     Copy,
-    /// Times 3.
-    Scale,
-    /// And `x^2`.
-    Add,
-    /// Less `x^2`.
+    /// Less 1.
     Sub,
-    /// Times `x^2`.
-    Mul,
     Neg,
     Primitive,
     /// The derivative by `x`.
@@ -25,6 +19,13 @@ enum Operation {
     Middle,
     /// With `c` in the place of `x`.
     Renamed,
+}
+
+/// `4*b*x - 2*a*x^2`
+const GIVEN: [Linear; 3] = [[-2, 0, 0, 0], [0, 4, 0, 0], ZERO];
+
+fn difference(alloc: Global, poly: &Poly) -> Result<Poly, PolyStop> {
+    poly.sub(alloc, &linear(alloc, ONE)?)
 }
 
 /// The quotient by the content, which has to be told as negated.
@@ -45,25 +46,10 @@ fn middle(alloc: Global, poly: &Poly) -> Result<Poly, PolyStop> {
     Ok(parts[1].copy(alloc)?)
 }
 
-fn three() -> Coef {
-    Coef::of(3).unwrap_or(Coef::zero())
-}
-
-/// An operation with `x^2`.
-fn with_square(alloc: Global, operation: Operation, poly: &Poly) -> Result<Poly, PolyStop> {
-    let square = Poly::power(alloc, X, 2)?;
-    match operation {
-        Operation::Add => poly.add(alloc, &square),
-        Operation::Sub => poly.sub(alloc, &square),
-        _ => poly.mul(alloc, &square),
-    }
-}
-
 fn applied(alloc: Global, operation: Operation, poly: &Poly) -> Result<Poly, PolyStop> {
     match operation {
         Operation::Copy => Ok(poly.copy(alloc)?),
-        Operation::Scale => poly.scale(alloc, three()),
-        Operation::Add | Operation::Sub | Operation::Mul => with_square(alloc, operation, poly),
+        Operation::Sub => difference(alloc, poly),
         Operation::Neg => Ok(poly.neg(alloc)?),
         Operation::Primitive => primitive(alloc, poly),
         Operation::Derivative => poly.derivative(alloc, X),
@@ -72,19 +58,21 @@ fn applied(alloc: Global, operation: Operation, poly: &Poly) -> Result<Poly, Pol
     }
 }
 
-/// What the operation gives of `4*b*x - 2*a*x^2`.
+fn result(alloc: Global, operation: Operation) -> Result<Poly, PolyStop> {
+    let given = quadratic(alloc, GIVEN)?;
+    applied(alloc, operation, &given)
+}
+
 fn result_text(alloc: Global, operation: Operation) -> Result<String, PolyStop> {
-    let given = poly(alloc, "4*b*x - 2*a*x^2")?;
-    let found = applied(alloc, operation, &given)?;
-    Ok(poly_text(alloc, &found)?)
+    let poly = result(alloc, operation)?;
+    let mut out = String::new(alloc);
+    push_poly(&mut out, &poly)?;
+    Ok(out)
 }
 
 const RESULTS: &[(Operation, &str)] = &[
     (Operation::Copy, "-2*a*x^2 + 4*b*x"),
-    (Operation::Scale, "-6*a*x^2 + 12*b*x"),
-    (Operation::Add, "-2*a*x^2 + 4*b*x + x^2"),
-    (Operation::Sub, "-2*a*x^2 + 4*b*x - x^2"),
-    (Operation::Mul, "-2*a*x^4 + 4*b*x^3"),
+    (Operation::Sub, "-2*a*x^2 + 4*b*x - 1"),
     (Operation::Neg, "2*a*x^2 - 4*b*x"),
     (Operation::Primitive, "a*x^2 - 2*b*x"),
     (Operation::Derivative, "-4*a*x + 4*b"),
@@ -95,6 +83,6 @@ const RESULTS: &[(Operation, &str)] = &[
 #[test]
 fn runs_each_operation(rt: HostRuntime) {
     for (operation, want) in RESULTS {
-        assert!(rt; is_text(result_text(rt.alloc(), *operation).ok(), want));
+        assert!(rt; is_text(result_text(rt.alloc(), *operation), want));
     }
 }

@@ -1,7 +1,7 @@
 //! Prenex forms of texts, worked out by hand.
 
 use crate::built::read_input;
-use crate::spelled::{is_text, push_form};
+use crate::spelled::push_form;
 use qe_norm::{Block, Kind, NormStop, OutOfMemory, Prenex, normal};
 use std::alloc::Global;
 use std::fmt::Write;
@@ -42,6 +42,13 @@ fn prenex_text(alloc: Global, text: &str) -> Result<String, NormStop> {
     let mut out = String::new(alloc);
     push_prenex(&mut out, &prenex)?;
     Ok(out)
+}
+
+fn is_prenex(alloc: Global, text: &str, want: &str) -> bool {
+    match prenex_text(alloc, text) {
+        Ok(found) => found.as_str() == want,
+        Err(_) => false,
+    }
 }
 
 // In the results the variables 0, 1, 2 and all further ones are written as a, b, c and x.
@@ -90,6 +97,6 @@ const ROWS: &[(&str, &str)] = &[
 #[test]
 fn gives_prenex_forms(rt: HostRuntime) {
     for (text, want) in ROWS {
-        assert!(rt; is_text(prenex_text(rt.alloc(), text).ok(), want));
+        assert!(rt; is_prenex(rt.alloc(), text, want));
     }
 }

@@ -1,8 +1,7 @@
 //! Texts of polynomials and formulas over `a`, `b`, `c` and `x`.
 
 use qe_form::{Form, Forms, OutOfMemory, Signs};
-use qe_poly::{Poly, Term, Var};
-use std::alloc::Global;
+use qe_poly::{Poly, PolyStop, Term, Var};
 use std::fmt::Write;
 
 /// A term without its sign, as `2*a^2*b`.
@@ -64,13 +63,6 @@ fn relation(signs: Signs) -> &'static str {
     }
 }
 
-/// The text of a polynomial.
-pub fn poly_text(alloc: Global, poly: &Poly) -> Result<String, OutOfMemory> {
-    let mut out = String::new(alloc);
-    push_poly(&mut out, poly)?;
-    Ok(out)
-}
-
 /// A formula, in which each list of parts stands in brackets.
 #[cycle(push_form)]
 pub fn push_form(out: &mut String, form: &Form) -> Result<(), OutOfMemory> {
@@ -96,17 +88,10 @@ fn push_parts(out: &mut String, parts: &Forms, word: &str) -> Result<(), OutOfMe
     out.push_str("]")
 }
 
-/// The text of a formula.
-pub fn form_text(alloc: Global, form: &Form) -> Result<String, OutOfMemory> {
-    let mut out = String::new(alloc);
-    push_form(&mut out, form)?;
-    Ok(out)
-}
-
 /// Whether it is this text.
-pub fn is_text(found: Option<String>, want: &str) -> bool {
+pub fn is_text(found: Result<String, PolyStop>, want: &str) -> bool {
     match found {
-        Some(text) => text.as_str() == want,
-        None => false,
+        Ok(text) => text.as_str() == want,
+        Err(_) => false,
     }
 }

@@ -1,288 +1,288 @@
-//! Substitutions of `x`, worked out by hand.
+//! Substitutions worked out by hand. The variables are `a`, `b`, `c` and `x`, numbered from 0, and `x` is substituted.
 
-use crate::built::{AT_LEAST, AT_MOST, EQUAL, LESS, MORE, NOT_EQUAL, X, poly, root, signs_of};
-use crate::spelled::{form_text, is_text};
+use crate::built::{
+    A, AT_LEAST, AT_MOST, B, C, EQUAL, LESS, Linear, MORE, NOT_EQUAL, ONE, X, ZERO, quadratic,
+    root, signs_of,
+};
+use crate::spelled::{is_text, push_form};
 use qe_form::Atom;
-use qe_subst::{Form, OutOfMemory, Point, Poly, SubstStop, substitute};
+use qe_subst::{Form, OutOfMemory, Point, Poly, PolyStop, SubstStop, substitute};
 use std::alloc::Global;
 
-/// Where a test point lies.
-#[derive(Clone, Copy)]
-enum Place {
-    /// At a root, which is given by the texts of p, q, r and s.
-    At,
-    /// Just above one.
-    Above,
-    /// Below all numbers.
-    Below,
-}
+const MINUS_A: Linear = [-1, 0, 0, 0];
 
-use Place::{Above, At, Below};
+const MINUS_B: Linear = [0, -1, 0, 0];
 
-/// `a`, a root without a square root.
-const A: [&str; 4] = ["a", "0", "0", "1"];
+const TWICE_B: Linear = [0, 2, 0, 0];
 
-/// `b + sqrt(c)`
-const B_AND_ROOT_OF_C: [&str; 4] = ["b", "1", "c", "1"];
-
-/// 0, as the root of `2*b*x`.
-const ZERO: [&str; 4] = ["0", "0", "0", "2*b"];
-
-fn point_of(alloc: Global, place: Place, parts: [&str; 4]) -> Result<Point, OutOfMemory> {
-    let root = root(alloc, parts)?;
-    match place {
-        At => Ok(Point::Root(root)),
-        Above => Ok(Point::RootPlus(root)),
-        Below => Ok(Point::MinusInf),
+/// The formula; no limit is met.
+fn outcome_text(alloc: Global, outcome: Result<Form, SubstStop>) -> Result<String, OutOfMemory> {
+    let mut out = String::new(alloc);
+    match outcome {
+        Ok(form) => push_form(&mut out, &form)?,
+        Err(_) => out.push_str("stopped")?,
     }
+    Ok(out)
 }
 
-/// What stands for one atom.
-fn atom_at(
+/// What stands for one atom, as text.
+fn atom_text(
     alloc: Global,
     poly: Poly,
     bits: u8,
     point: &Point,
     own: Option<&Poly>,
-) -> Result<Form, SubstStop> {
+) -> Result<String, OutOfMemory> {
     let signs = signs_of(bits);
     let is_low = poly.degree_in(X) <= 2;
     let form = Form::Atom(Atom { poly, signs });
     if is_low && 0 < signs.bits() && signs.bits() < 7 {
-        substitute(alloc, &form, X, point, own)
+        outcome_text(alloc, substitute(alloc, &form, X, point, own))
     } else {
-        Err(SubstStop::TooLarge)
+        Ok(String::new(alloc))
     }
 }
 
-/// The same with `2*b*x` as the polynomial that the root comes from.
-fn atom_at_own(alloc: Global, atom: Poly, bits: u8, point: &Point) -> Result<Form, SubstStop> {
-    let own = poly(alloc, "2*b*x")?;
-    atom_at(alloc, atom, bits, point, Some(&own))
+/// The root, or what is just above it.
+fn point_of(alloc: Global, parts: [Linear; 4], plus: bool) -> Result<Point, PolyStop> {
+    let root = root(alloc, parts)?;
+    if plus {
+        Ok(Point::RootPlus(root))
+    } else {
+        Ok(Point::Root(root))
+    }
 }
 
-/// What stands for the atom on the polynomial of this text.
-fn row_form(
+/// What stands for an atom at the point.
+fn poly_text(
     alloc: Global,
-    text: &str,
+    coefficients: [Linear; 3],
     bits: u8,
     point: &Point,
-    is_own: bool,
-) -> Result<Form, SubstStop> {
-    let atom = poly(alloc, text)?;
-    if is_own {
-        atom_at_own(alloc, atom, bits, point)
-    } else {
-        atom_at(alloc, atom, bits, point, None)
-    }
+) -> Result<String, PolyStop> {
+    let poly = quadratic(alloc, coefficients)?;
+    Ok(atom_text(alloc, poly, bits, point, None)?)
 }
 
-fn row_text(alloc: Global, row: &Row, is_own: bool) -> Result<String, SubstStop> {
-    let (text, bits, place, parts, _) = *row;
-    let point = point_of(alloc, place, parts)?;
-    let form = row_form(alloc, text, bits, &point, is_own)?;
-    Ok(form_text(alloc, &form)?)
+/// What stands for an atom at a root, or just above it.
+fn root_text(
+    alloc: Global,
+    coefficients: [Linear; 3],
+    bits: u8,
+    parts: [Linear; 4],
+    plus: bool,
+) -> Result<String, PolyStop> {
+    let point = point_of(alloc, parts, plus)?;
+    poly_text(alloc, coefficients, bits, &point)
 }
 
-/// The polynomial, the relation, the place with its parts, and what stands for the atom there.
-type Row = (&'static str, u8, Place, [&'static str; 4], &'static str);
+/// What stands for an atom at 0, or just above it, as the root of 2*b*x.
+fn own_text(
+    alloc: Global,
+    coefficients: [Linear; 3],
+    bits: u8,
+    plus: bool,
+) -> Result<String, PolyStop> {
+    let own = quadratic(alloc, [ZERO, TWICE_B, ZERO])?;
+    let point = point_of(alloc, [ZERO, ZERO, ZERO, TWICE_B], plus)?;
+    let poly = quadratic(alloc, coefficients)?;
+    Ok(atom_text(alloc, poly, bits, &point, Some(&own))?)
+}
 
-const ROWS: &[Row] = &[
+// At a, a root without a square root, and just above it: the coefficients of x^2, x and 1, the relation, and what stands for the atom.
+const AT_A: &[([Linear; 3], u8, bool, &str)] = &[
     // x - b
-    ("x - b", LESS, At, A, "a - b < 0"),
-    ("x - b", AT_MOST, At, A, "a - b <= 0"),
-    ("x - b", EQUAL, At, A, "a - b = 0"),
-    ("x - b", NOT_EQUAL, At, A, "a - b <> 0"),
-    ("x - b", AT_LEAST, At, A, "a - b >= 0"),
-    ("x - b", MORE, At, A, "a - b > 0"),
+    ([ZERO, ONE, MINUS_B], LESS, false, "a - b < 0"),
+    ([ZERO, ONE, MINUS_B], AT_MOST, false, "a - b <= 0"),
+    ([ZERO, ONE, MINUS_B], EQUAL, false, "a - b = 0"),
+    ([ZERO, ONE, MINUS_B], NOT_EQUAL, false, "a - b <> 0"),
+    ([ZERO, ONE, MINUS_B], AT_LEAST, false, "a - b >= 0"),
+    ([ZERO, ONE, MINUS_B], MORE, false, "a - b > 0"),
     (
-        "x - b",
+        [ZERO, ONE, MINUS_B],
         LESS,
-        Above,
-        A,
+        true,
         "[a - b < 0 or [a - b = 0 and 1 < 0]]",
     ),
     (
-        "x - b",
+        [ZERO, ONE, MINUS_B],
         AT_MOST,
-        Above,
-        A,
+        true,
         "[a - b < 0 or [a - b = 0 and 1 <= 0]]",
     ),
-    ("x - b", EQUAL, Above, A, "[1 = 0 and -b = 0]"),
-    ("x - b", NOT_EQUAL, Above, A, "[1 <> 0 or -b <> 0]"),
+    ([ZERO, ONE, MINUS_B], EQUAL, true, "[1 = 0 and -b = 0]"),
+    ([ZERO, ONE, MINUS_B], NOT_EQUAL, true, "[1 <> 0 or -b <> 0]"),
     (
-        "x - b",
+        [ZERO, ONE, MINUS_B],
         AT_LEAST,
-        Above,
-        A,
+        true,
         "[a - b > 0 or [a - b = 0 and 1 >= 0]]",
     ),
     (
-        "x - b",
+        [ZERO, ONE, MINUS_B],
         MORE,
-        Above,
-        A,
+        true,
         "[a - b > 0 or [a - b = 0 and 1 > 0]]",
     ),
     // b*x^2 + c: its slopes are 2*b*x and 2*b
-    ("b*x^2 + c", LESS, At, A, "a^2*b + c < 0"),
-    ("b*x^2 + c", EQUAL, Above, A, "[b = 0 and 0 = 0 and c = 0]"),
+    ([B, ZERO, C], LESS, false, "a^2*b + c < 0"),
+    ([B, ZERO, C], EQUAL, true, "[b = 0 and 0 = 0 and c = 0]"),
     (
-        "b*x^2 + c",
+        [B, ZERO, C],
         NOT_EQUAL,
-        Above,
-        A,
+        true,
         "[b <> 0 or 0 <> 0 or c <> 0]",
     ),
     (
-        "b*x^2 + c",
+        [B, ZERO, C],
         LESS,
-        Above,
-        A,
+        true,
         "[a^2*b + c < 0 or [a^2*b + c = 0 and [2*a*b < 0 or [2*a*b = 0 and 2*b < 0]]]]",
     ),
     (
-        "b*x^2 + c",
+        [B, ZERO, C],
         AT_LEAST,
-        Above,
-        A,
+        true,
         "[a^2*b + c > 0 or [a^2*b + c = 0 and [2*a*b > 0 or [2*a*b = 0 and 2*b >= 0]]]]",
     ),
     // an atom without x stays
-    ("b", MORE, At, A, "b > 0"),
-    ("b", MORE, Above, A, "b > 0"),
-    // where the form for the sign of A + B*sqrt(c) is needed
+    ([ZERO, ZERO, B], MORE, false, "b > 0"),
+    ([ZERO, ZERO, B], MORE, true, "b > 0"),
+];
+
+#[test]
+fn substitutes_a_quotient(rt: HostRuntime) {
+    let parts = [A, ZERO, ZERO, ONE];
+    for (coefficients, bits, plus, want) in AT_A {
+        assert!(rt;
+            is_text(
+                root_text(rt.alloc(), *coefficients, *bits, parts, *plus),
+                want
+            )
+        );
+    }
+}
+
+// The same at b + sqrt(c), where the form for the sign of A + B*sqrt(c) is needed.
+const AT_B_AND_ROOT_OF_C: &[([Linear; 3], u8, bool, &str)] = &[
     // x - a: A is b - a, B is 1
     (
-        "x - a",
+        [ZERO, ONE, MINUS_A],
         EQUAL,
-        At,
-        B_AND_ROOT_OF_C,
+        false,
         "[-a + b <= 0 and a^2 - 2*a*b + b^2 - c = 0]",
     ),
     (
-        "x - a",
+        [ZERO, ONE, MINUS_A],
         AT_MOST,
-        At,
-        B_AND_ROOT_OF_C,
+        false,
         "[[-a + b <= 0 and a^2 - 2*a*b + b^2 - c >= 0] or [1 <= 0 and a^2 - 2*a*b + b^2 - c <= 0]]",
     ),
     (
-        "x - a",
+        [ZERO, ONE, MINUS_A],
         AT_MOST,
-        Above,
-        B_AND_ROOT_OF_C,
+        true,
         "[[[-a + b < 0 and a^2 - 2*a*b + b^2 - c > 0] or [1 <= 0 and [-a + b < 0 or a^2 - 2*a*b + b^2 - c < 0]]] or [[-a + b <= 0 and a^2 - 2*a*b + b^2 - c = 0] and 1 <= 0]]",
     ),
     // x^2 - a: A is b^2 + c - a, B is 2*b
     (
-        "x^2 - a",
+        [ONE, ZERO, MINUS_A],
         NOT_EQUAL,
-        At,
-        B_AND_ROOT_OF_C,
+        false,
         "[-2*a*b + 2*b^3 + 2*b*c > 0 or a^2 - 2*a*b^2 - 2*a*c + b^4 - 2*b^2*c + c^2 <> 0]",
     ),
-    // below all numbers
-    ("a*x + b", LESS, Below, ZERO, "[a > 0 or [a = 0 and b < 0]]"),
-    (
-        "a*x + b",
-        AT_MOST,
-        Below,
-        ZERO,
-        "[a > 0 or [a = 0 and b <= 0]]",
-    ),
-    ("a*x + b", EQUAL, Below, ZERO, "[a = 0 and b = 0]"),
-    ("a*x + b", NOT_EQUAL, Below, ZERO, "[a <> 0 or b <> 0]"),
-    (
-        "a*x + b",
-        AT_LEAST,
-        Below,
-        ZERO,
-        "[a < 0 or [a = 0 and b >= 0]]",
-    ),
-    ("a*x + b", MORE, Below, ZERO, "[a < 0 or [a = 0 and b > 0]]"),
-    (
-        "a*x^2 + b*x + c",
-        LESS,
-        Below,
-        ZERO,
-        "[a < 0 or [a = 0 and b > 0] or [a = 0 and b = 0 and c < 0]]",
-    ),
-    (
-        "a*x^2 + b*x + c",
-        AT_MOST,
-        Below,
-        ZERO,
-        "[a < 0 or [a = 0 and b > 0] or [a = 0 and b = 0 and c <= 0]]",
-    ),
-    (
-        "a*x^2 + b*x + c",
-        EQUAL,
-        Below,
-        ZERO,
-        "[a = 0 and b = 0 and c = 0]",
-    ),
-    (
-        "a*x^2 + b*x + c",
-        NOT_EQUAL,
-        Below,
-        ZERO,
-        "[a <> 0 or b <> 0 or c <> 0]",
-    ),
-    (
-        "a*x^2 + b*x + c",
-        AT_LEAST,
-        Below,
-        ZERO,
-        "[a > 0 or [a = 0 and b < 0] or [a = 0 and b = 0 and c >= 0]]",
-    ),
-    (
-        "a*x^2 + b*x + c",
-        MORE,
-        Below,
-        ZERO,
-        "[a > 0 or [a = 0 and b < 0] or [a = 0 and b = 0 and c > 0]]",
-    ),
-    ("c", EQUAL, Below, ZERO, "c = 0"),
 ];
 
 #[test]
-fn substitutes_a_point(rt: HostRuntime) {
-    for row in ROWS {
-        assert!(rt; is_text(row_text(rt.alloc(), row, false).ok(), row.4));
+fn substitutes_a_square_root(rt: HostRuntime) {
+    let parts = [B, ONE, C, ONE];
+    for (coefficients, bits, plus, want) in AT_B_AND_ROOT_OF_C {
+        assert!(rt;
+            is_text(
+                root_text(rt.alloc(), *coefficients, *bits, parts, *plus),
+                want
+            )
+        );
     }
 }
 
-// Here the root comes from `2*b*x`.
-const OWN_ROWS: &[Row] = &[
-    ("2*b*x", LESS, At, ZERO, "false"),
-    ("2*b*x", AT_MOST, At, ZERO, "true"),
-    ("2*b*x", EQUAL, At, ZERO, "true"),
-    ("2*b*x", NOT_EQUAL, At, ZERO, "false"),
-    ("2*b*x", LESS, Above, ZERO, "[false or [true and 2*b < 0]]"),
+// The coefficients of x^2, x and 1, the relation, and what stands for the atom below all numbers.
+const BELOW: &[([Linear; 3], u8, &str)] = &[
+    ([ZERO, A, B], LESS, "[a > 0 or [a = 0 and b < 0]]"),
+    ([ZERO, A, B], AT_MOST, "[a > 0 or [a = 0 and b <= 0]]"),
+    ([ZERO, A, B], EQUAL, "[a = 0 and b = 0]"),
+    ([ZERO, A, B], NOT_EQUAL, "[a <> 0 or b <> 0]"),
+    ([ZERO, A, B], AT_LEAST, "[a < 0 or [a = 0 and b >= 0]]"),
+    ([ZERO, A, B], MORE, "[a < 0 or [a = 0 and b > 0]]"),
     (
-        "2*b*x",
+        [A, B, C],
+        LESS,
+        "[a < 0 or [a = 0 and b > 0] or [a = 0 and b = 0 and c < 0]]",
+    ),
+    (
+        [A, B, C],
+        AT_MOST,
+        "[a < 0 or [a = 0 and b > 0] or [a = 0 and b = 0 and c <= 0]]",
+    ),
+    ([A, B, C], EQUAL, "[a = 0 and b = 0 and c = 0]"),
+    ([A, B, C], NOT_EQUAL, "[a <> 0 or b <> 0 or c <> 0]"),
+    (
+        [A, B, C],
         AT_LEAST,
-        Above,
-        ZERO,
+        "[a > 0 or [a = 0 and b < 0] or [a = 0 and b = 0 and c >= 0]]",
+    ),
+    (
+        [A, B, C],
+        MORE,
+        "[a > 0 or [a = 0 and b < 0] or [a = 0 and b = 0 and c > 0]]",
+    ),
+    ([ZERO, ZERO, C], EQUAL, "c = 0"),
+];
+
+#[test]
+fn substitutes_minus_infinity(rt: HostRuntime) {
+    for (coefficients, bits, want) in BELOW {
+        assert!(rt;
+            is_text(
+                poly_text(rt.alloc(), *coefficients, *bits, &Point::MinusInf),
+                want
+            )
+        );
+    }
+}
+
+// The point is 0, as the root of 2*b*x. The coefficients of x^2, x and 1, the relation, and what stands for the atom.
+const AT_OWN: &[([Linear; 3], u8, bool, &str)] = &[
+    ([ZERO, TWICE_B, ZERO], LESS, false, "false"),
+    ([ZERO, TWICE_B, ZERO], AT_MOST, false, "true"),
+    ([ZERO, TWICE_B, ZERO], EQUAL, false, "true"),
+    ([ZERO, TWICE_B, ZERO], NOT_EQUAL, false, "false"),
+    (
+        [ZERO, TWICE_B, ZERO],
+        LESS,
+        true,
+        "[false or [true and 2*b < 0]]",
+    ),
+    (
+        [ZERO, TWICE_B, ZERO],
+        AT_LEAST,
+        true,
         "[false or [true and 2*b >= 0]]",
     ),
-    ("2*b*x", EQUAL, Above, ZERO, "[2*b = 0 and 0 = 0]"),
+    ([ZERO, TWICE_B, ZERO], EQUAL, true, "[2*b = 0 and 0 = 0]"),
     // it is the slope of b*x^2 + c, whose value at 0 is (2*b)^2*c over the square of the divisor
-    ("b*x^2 + c", LESS, At, ZERO, "4*b^2*c < 0"),
+    ([B, ZERO, C], LESS, false, "4*b^2*c < 0"),
     (
-        "b*x^2 + c",
+        [B, ZERO, C],
         LESS,
-        Above,
-        ZERO,
+        true,
         "[4*b^2*c < 0 or [4*b^2*c = 0 and [false or [true and 2*b < 0]]]]",
     ),
 ];
 
 #[test]
 fn knows_the_own_polynomial(rt: HostRuntime) {
-    for row in OWN_ROWS {
-        assert!(rt; is_text(row_text(rt.alloc(), row, true).ok(), row.4));
+    for (coefficients, bits, plus, want) in AT_OWN {
+        assert!(rt; is_text(own_text(rt.alloc(), *coefficients, *bits, *plus), want));
     }
 }
