@@ -67,22 +67,3 @@ impl<T: Drop> Sequence<T> {
         Ok(())
     }
 }
-
-#[cfg(test)]
-mod tests {
-    use super::*;
-    use std::test::Fail;
-
-    #[test]
-    fn keeps_the_order(rt: HostRuntime) -> Result<(), Fail> {
-        let mut list = Sequence::new(rt.alloc());
-        for item in [3u8, 1, 2] {
-            list.push(item)?;
-        }
-        assert_eq!(rt; list.items(), [3, 1, 2].as_slice());
-        let mut again = Sequence::from_vec(list.into_vec());
-        again.push(7)?;
-        assert_eq!(rt; again.items(), [3, 1, 2, 7].as_slice());
-        Ok(())
-    }
-}

@@ -1,4 +1,5 @@
-use Rattle.std.proofs.Common.{◌≡◌, ◌∙◌, ap, ◌++◌, ◌⊎◌, inl, inr, drop, []}
+use Rattle.std.proofs.Common.{◌≡◌, ◌∙◌, ap, arith, ◌++◌, ◌⊎◌, inl, inr, drop, []}
+use Rattle.std.proofs.lemmas.Grind.{common_steps}
 use Rattle.std.proofs.lemmas.List.{drop_all}
 use Rattle.qe_poly.proofs.Products.{powers_end, rest_taken}
 use Rattle.qe_poly.proofs.monomial.powers_product.Goals as goal
@@ -16,3 +17,12 @@ returns c =
     c.loop-i.invariant.left_low c.loop-i.invariant.right_low c.loop-i.invariant.low c.loop-i.invariant.rest
     (c.in_ok-extend_from_slice.ensures.items ∙ ap (λ m. c.loop-i.powers.items ++ m) (rest_taken c.loop-i.i c.args.left.now))
     (c.in_ok-extend_from_slice-2.ensures.items ∙ ap (λ m. c.extend_from_slice.new.self.items ++ m) (rest_taken c.loop-i.j c.args.right.now))
+
+pub loop-i-preserved-in-Less : goal.loop-i-preserved-in-Less
+loop-i-preserved-in-Less c = grind (arith, common_steps)
+
+pub loop-i-preserved-in-Equal : goal.loop-i-preserved-in-Equal
+loop-i-preserved-in-Equal c = grind (arith, common_steps)
+
+pub loop-i-preserved : goal.loop-i-preserved
+loop-i-preserved c = grind (arith, common_steps)
