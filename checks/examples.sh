@@ -1,7 +1,7 @@
 #!/usr/bin/env bash
-# Runs each example of the documents, and each row of checks/rows.md, over the built program. An example is an indented line
-# `$ echo 'INPUT' | ./qe WORDS`, then the indented lines that are written, and then, where the exit status is not 0,
-# `[exit status N]`. Prints a line for each example that fails, and 'N passed, M failed' last.
+# Runs each example of the documents, and each row of checks/rows.md and checks/texts.md, over the built program. An example is an
+# indented line `$ echo 'INPUT' | ./qe WORDS`, or another command with ./qe, then the indented lines that are written, and then,
+# where the exit status is not 0, `[exit status N]`. Prints a line for each example that fails, and 'N passed, M failed' last.
 set -u
 cd -- "$(dirname -- "${BASH_SOURCE[0]}")/.." || exit 1
 passed=0
@@ -42,7 +42,7 @@ try() {
   esac
 }
 
-for file in README.md docs/LANGUAGE.md docs/METHOD.md checks/rows.md; do
+for file in README.md docs/LANGUAGE.md docs/METHOD.md checks/rows.md checks/texts.md; do
   command=
   expected=
   while IFS= read -r text; do

@@ -1,12 +1,9 @@
-//! Worked cases of the tokens, the grammar, the reader and the printer, as tests over their public calls.
+//! Tokens, trees, the reader and the printer, each public call once, as tests over these calls alone.
 //! They stand apart, so that none of those crates is proved a second time beside its tests.
+//! Cases of texts stand in checks/texts.md, over the built program.
 #![tactic(auto)]
 
 #[cfg(test)]
-mod grammar;
-#[cfg(test)]
-mod printer;
-#[cfg(test)]
-mod reader;
+mod texts;
 #[cfg(test)]
 mod tokens;
