@@ -1,7 +1,7 @@
 -- The polynomials of a candidate's guard and point, and of the formula at the point, are canonical where those of the formula are.
-use Rattle.std.proofs.Common.{ℕ, zero, suc, pos, negsuc, subst, Bool, true, false, cond, eqb, [], ◌∷◌, Option, Some, None}
+use Rattle.std.proofs.Common.{ℕ, zero, suc, pos, negsuc, subst, Bool, true, false, cond, eqb, Option}
 use Rattle.qe_coef.specs.declared.Op.TheVariants.{Add}
-use Rattle.qe_poly.specs.Polynomial.{Polynomial, IsPolynomial, constant, negative, difference, sum, product}
+use Rattle.qe_poly.specs.Polynomial.{Polynomial, IsPolynomial, negative, sum, product}
 use Rattle.qe_poly.specs.Coefficients.{degree_in, coefficient_in, derivative}
 use Rattle.qe_poly.specs.Value.{scaled}
 use Rattle.qe_poly.proofs.MergedSums.{IsPolynomial-results, results-sum, IsPolynomial-negative, IsPolynomial-difference}
@@ -12,9 +12,8 @@ use Rattle.qe_poly.proofs.Derivatives.{IsPolynomial-derivative}
 use Rattle.qe_poly.proofs.Constants.{IsPolynomial-constant}
 use Rattle.qe_form.specs.declared.form.Atom as atom
 use Rattle.qe_form.specs.declared.signs.Signs.{Signs}
-use Rattle.qe_form.specs.Signs.{mirror}
 use Rattle.qe_form.specs.Formula.{Formula, Formulas, True, False, Atom, And, Or, Not, Implies, Iff, Ex, All, no_more, more}
-use Rattle.qe_form.specs.Plain.{IsPlainWith, ArePlainWith}
+use Rattle.qe_form.specs.Plain.{ArePlainWith}
 use Rattle.qe_root.specs.declared.point.RootPoint.{RootPoint}
 use Rattle.qe_root.specs.declared.point.Point.{Point}
 use Rattle.qe_root.specs.declared.point.Point.TheVariants.{Root, RootPlus, MinusInf}
@@ -27,7 +26,7 @@ use Rattle.qe_points.specs.declared.candidate.Which.{Which}
 use Rattle.qe_points.specs.declared.candidate.Which.TheVariants.{Linear, Upper, Lower}
 use Rattle.qe_points.specs.declared.candidate.Candidate.{Candidate}
 use Rattle.qe_points.specs.declared.candidate.Candidate.TheVariants as candidate
-use Rattle.qe_points.specs.Guard.{guard, linear_guard, point_of, discriminant, is_negative, turned, root, at_root}
+use Rattle.qe_points.specs.Guard.{guard, point_of, discriminant, is_negative, turned, root, at_root}
 use Rattle.qe_points.specs.Guarded.{own}
 use Rattle.qe_subst.specs.Substituted as spec
 use Rattle.qe_tree.specs.Sound.{IsFine}

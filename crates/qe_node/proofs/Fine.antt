@@ -1,7 +1,7 @@
 -- Each candidate of a formula over canonical polynomials has a canonical polynomial.
-use Rattle.std.proofs.Common.{ℕ, suc, ◌≡◌, ap, Bool, true, false, not, cond, eqb, List, [], ◌∷◌, ◌++◌}
+use Rattle.std.proofs.Common.{ℕ, suc, Bool, true, false, not, cond, eqb, List, [], ◌∷◌, ◌++◌}
 use Rattle.std.specs.List.{filter, flat_map}
-use Rattle.qe_poly.specs.Polynomial.{Polynomial, IsPolynomial}
+use Rattle.qe_poly.specs.Polynomial.{IsPolynomial}
 use Rattle.qe_poly.specs.Coefficients.{degree_in}
 use Rattle.qe_poly.specs.Equal.{poly_eq}
 use Rattle.qe_form.specs.declared.form.Atom as atom
@@ -9,7 +9,6 @@ use Rattle.qe_form.specs.Formula.{Formula, Formulas, True, False, Atom, And, Or,
 use Rattle.qe_form.specs.Plain.{ArePlainWith}
 use Rattle.qe_root.specs.Atoms.{atoms, atoms_of}
 use Rattle.qe_points.specs.declared.candidate.Which.TheVariants.{Linear, Upper, Lower}
-use Rattle.qe_points.specs.declared.candidate.Candidate.{Candidate}
 use Rattle.qe_points.specs.declared.candidate.Candidate.TheVariants.{Root, MinusInf}
 use Rattle.qe_points.specs.Candidates.{Numbered, gives, numbered, distinct, roots_of, roots, candidates}
 use Rattle.qe_tree.specs.Sound.{Each, IsFine}

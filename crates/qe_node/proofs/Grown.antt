@@ -1,11 +1,11 @@
 -- What the candidates of a formula give: formulas that are true where the formula holds at the candidate, and good ones.
-use Rattle.std.proofs.Common.{ℕ, suc, ◌≡◌, ◌≢◌, ◌⊎◌, inl, inr, ◌↔◌, ◌∙◌, sym, ap, refl, subst, Bool, true, false, cond, List, [], ◌∷◌, Option, Some, None, Result, Ok, Err}
+use Rattle.std.proofs.Common.{ℕ, suc, ◌≡◌, inl, inr, ◌↔◌, sym, refl, subst, Bool, true, false, cond, List, [], ◌∷◌, Option, Some, None, Result, Ok, Err}
 use Rattle.qe_tower.specs.Point.{Point, IsPoint}
 use Rattle.qe_poly.specs.declared.limit.PolyLimit.{PolyLimit}
 use Rattle.qe_form.specs.Formula.{Formula, True, False, Atom, And, Or, Not, Implies, Iff, Ex, All, no_more, more}
 use Rattle.qe_form.specs.Tree.{trees_of}
 use Rattle.qe_form.specs.Truth.{Is, SomeIs}
-use Rattle.qe_form.specs.Same.{Agree, IsFree}
+use Rattle.qe_form.specs.Same.{Agree}
 use Rattle.qe_simp.specs.Simplified.{simplified}
 use Rattle.qe_simp.specs.Meaning.{Keeps}
 use Rattle.qe_root.specs.declared.stop.SubstStop.{SubstStop}
@@ -16,9 +16,9 @@ use Rattle.qe_points.specs.Guard.{guard, point_of, limit}
 use Rattle.qe_points.specs.Guarded.{own, IsSound}
 use Rattle.qe_subst.specs.Substituted.{substituted}
 use Rattle.qe_subst.specs.Stop.{stop}
-use Rattle.qe_tree.specs.Sound.{Each, IsIn, forms_of}
+use Rattle.qe_tree.specs.Sound.{Each, forms_of}
 use Rattle.qe_node.specs.declared.stop.NodeStop.{NodeStop}
-use Rattle.qe_node.specs.Successors.{is_false, is_true, Tried, fails, skipped, gives, unless_false, after_stop, joined, put_in, after_limit, tried, before, and_then, given_by}
+use Rattle.qe_node.specs.Successors.{is_false, is_true, Tried, fails, skipped, gives, after_stop, joined, put_in, after_limit, tried, before, and_then, given_by}
 
 -- ---- tests
 

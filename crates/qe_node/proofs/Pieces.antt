@@ -3,8 +3,8 @@ use Rattle.std.specs.Prelude.{◌&&◌}
 use Rattle.std.proofs.lemmas.Bool.Decides.{nat_tests}
 use Rattle.qe_poly.specs.declared.monomial.Var.{Var}
 use Rattle.qe_form.specs.Formula.{Formula}
-use Rattle.std.proofs.Common.{suc, true, false, eqb, length, arith, ℕ, ◌≡◌, ◌∙◌, sym, ap, refl, subst, Bool, List, [], ◌∷◌, map, Result, Ok, Err}
-use Rattle.qe_piece.specs.Meaning.{Child, gives, fails, child_of, Answers}
+use Rattle.std.proofs.Common.{suc, true, false, eqb, length, arith, ◌≡◌, ◌∙◌, sym, ap, refl, subst, Bool, List, [], ◌∷◌, map}
+use Rattle.qe_piece.specs.Meaning.{gives, child_of, Answers}
 use Rattle.qe_piece.specs.declared.maker.Next.{Next}
 use Rattle.qe_piece.specs.declared.maker.Made.{Made}
 use Rattle.qe_piece.specs.declared.maker.Made.TheVariants as made

@@ -1,5 +1,5 @@
 -- The variables of a list that pass a test, found one after another.
-use Rattle.std.proofs.Common.{◌≢◌, ◌^◌, filter, subst, ℕ, zero, suc, ◌+◌, ◌<◌, ◌≤◌, ◌≡◌, ◌↔◌, ◌∙◌, sym, ap, refl, Bool, true, false, cond, List, [], ◌∷◌, ◌++◌, map, length, get_or, drop, drop-cons, append_assoc, append-nil, arith}
+use Rattle.std.proofs.Common.{◌≢◌, ◌^◌, filter, subst, ℕ, ◌+◌, ◌<◌, ◌≤◌, ◌≡◌, ◌↔◌, ◌∙◌, sym, ap, refl, Bool, true, false, cond, List, [], ◌∷◌, ◌++◌, map, length, get_or, drop, drop-cons, append_assoc, append-nil, arith}
 use Rattle.std.specs.Prelude.{IsTrue, AllPairs, eqb, not, ◌&&◌}
 use lib.Pointwise.{pointwise}
 use Rattle.std.proofs.lemmas.List.Kept.{AllPairs-filter}

@@ -1,35 +1,29 @@
 -- The successors of a node are grown from it, and the expansion of nodes is sound.
-use Rattle.std.proofs.Common.{arith, ℕ, ◌≡◌, ◌≢◌, ◌≤◌, ◌⊎◌, inl, inr, ◌↔◌, ◌∙◌, sym, ap, refl, subst, Bool, true, false, cond, eqb, List, [], ◌∷◌, map, Option, Some, None, Result, Ok, Err, IfSome, length, get_or}
-use Rattle.qe_tower.specs.Point.{Point, IsPoint}
+use Rattle.std.proofs.Common.{arith, ℕ, ◌≡◌, ◌≢◌, ◌≤◌, inl, inr, ap, refl, subst, List, [], ◌∷◌, map, Option, Some, None, Result, Ok, Err, IfSome}
 use Rattle.qe_line.specs.Place as line
 use Rattle.qe_poly.specs.declared.monomial.Var.{Var}
-use Rattle.qe_poly.specs.Polynomial.{Polynomial, IsPolynomial}
-use Rattle.qe_poly.specs.Coefficients.{degree_in}
-use Rattle.qe_form.specs.declared.form.Atom as atom
-use Rattle.qe_form.specs.Formula.{Formula, Formulas, True, False, Atom, And, Or, Ex, no_more, more}
+use Rattle.qe_poly.specs.Polynomial.{IsPolynomial}
+use Rattle.qe_form.specs.Formula.{Formula, And, no_more, more}
 use Rattle.qe_form.specs.Measures.{degree, count, Has}
-use Rattle.qe_form.specs.Plain.{IsPlain, IsPlainWith, IsPlainAndProper}
+use Rattle.qe_form.specs.Plain.{IsPlain, IsPlainAndProper}
 use Rattle.qe_form.specs.Same.{IsFree, HasNoQuantifier}
-use Rattle.qe_form.specs.Tree.{trees_of}
-use Rattle.qe_form.specs.Truth.{Is}
 use Rattle.qe_form.proofs.Occurring.{occurring_is_free}
 use Rattle.qe_simp.specs.Simplified.{simplified}
 use Rattle.qe_simp.specs.Meaning.{Keeps}
 use Rattle.qe_simp.specs.Shape.{IsSimple, IsSimplified, EachAtom, IsCanonical}
 use Rattle.qe_simp.proofs.Kept.{simplified_keeps}
 use Rattle.qe_simp.proofs.Sizes.{simplified_size}
-use Rattle.qe_simp.proofs.Shapes.{plain_weaker, plain_atoms, plain_no_quantifier, simplified_is, simplified_is_plain, simplified_is_proper, simplified_no_quantifier}
+use Rattle.qe_simp.proofs.Shapes.{plain_weaker, plain_atoms, plain_no_quantifier, simplified_is, simplified_is_proper, simplified_no_quantifier}
 use Rattle.qe_root.specs.declared.point.Point as code
 use Rattle.qe_root.specs.declared.point.Point.TheVariants as point
 use Rattle.qe_root.specs.Atoms.{atoms}
-use Rattle.qe_points.specs.declared.candidate.Which.TheVariants as which
 use Rattle.qe_points.specs.declared.candidate.Candidate.{Candidate}
 use Rattle.qe_points.specs.declared.candidate.Candidate.TheVariants.{Root, MinusInf}
 use Rattle.qe_points.specs.Choice.{choice, IsOneOf}
 use Rattle.qe_points.specs.Candidates.{candidates}
 use Rattle.qe_points.specs.Guard.{guard, root_guard, point_of, root}
 use Rattle.qe_points.specs.Guarded.{HasRoot, own, IsSound, IsOf, OccursInOwn, OccursInPoint}
-use Rattle.qe_points.specs.Complete.{IsComplete, HoldsAtOne}
+use Rattle.qe_points.specs.Complete.{IsComplete}
 use Rattle.qe_points.proofs.Choosing.{choice_is}
 use Rattle.qe_points.proofs.Members as members
 use Rattle.qe_points.proofs.Enough.{is_of, made_complete}
@@ -39,7 +33,7 @@ use Rattle.qe_subst.specs.Stop.{stop}
 use Rattle.qe_subst.proofs.Truth.{substituted_means}
 use Rattle.qe_subst.proofs.LeftOver.{made_left}
 use Rattle.qe_tree.specs.Variables.{remaining}
-use Rattle.qe_tree.specs.Expanded.{Expanded, successors, failed}
+use Rattle.qe_tree.specs.Expanded.{successors}
 use Rattle.qe_tree.specs.Sound as tree
 use Rattle.qe_tree.specs.Sound.{Each, IsIn, IsFine, forms_of, IsGrown}
 use Rattle.qe_node.specs.declared.stop.NodeStop.{NodeStop}

@@ -8,7 +8,6 @@ use Rattle.std.specs.Cmp.{IsEquivalence, on_equiv, and_equiv, eq_by_cmp_equiv}
 use Rattle.std.specs.declared.cmp.Ordering.{Ordering}
 use Rattle.std.specs.declared.cmp.Ordering.TheVariants.{Less, Equal, Greater}
 use Rattle.std.proofs.lemmas.Cmp.{lists_equiv, nat_eq_equiv}
-use Rattle.qe_form.specs.Formula.{Formula}
 use Rattle.qe_form.specs.Order.{formula_cmp}
 use Rattle.qe_form.specs.OrderLaws.{formula_total, formula_same}
 use Rattle.qe_form.specs.Fed.{formula_fed}

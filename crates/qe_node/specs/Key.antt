@@ -1,8 +1,7 @@
 -- The key of a node: its variables and its formula as one list of numbers, from which both are read back.
-use Rattle.std.specs.Prelude.{ℕ, suc, zero, ℤ, pos, negsuc, Bool, true, false, List, [], ◌∷◌, ◌++◌, map}
+use Rattle.std.specs.Prelude.{ℕ, suc, zero, ℤ, pos, negsuc, Bool, true, false, List, [], ◌∷◌, ◌++◌}
 use Rattle.qe_poly.specs.declared.monomial.Power.{Power}
-use Rattle.qe_poly.specs.Monomial.{Monomial}
-use Rattle.qe_poly.specs.Polynomial.{Term, Polynomial}
+use Rattle.qe_poly.specs.Polynomial.{Term}
 use Rattle.qe_form.specs.declared.signs.Signs.{Signs}
 use Rattle.qe_form.specs.declared.form.Atom as atom
 use Rattle.qe_form.specs.Signs.{bit}

@@ -1,9 +1,8 @@
 -- A node as a piece: all that is asked of it is a function of its key.
 use Rattle.std.specs.Prelude.{ℕ, Bool, true, false, ◌&&◌, List, [], ◌∷◌, map, length, Result, Ok, Err}
-use Rattle.qe_piece.specs.Meaning.{Child, Meaning, gives, fails}
+use Rattle.qe_piece.specs.Meaning.{Meaning, gives, fails}
 use Rattle.qe_node.specs.declared.stop.NodeStop.{NodeStop}
-use Rattle.qe_node.specs.Key.{variables_of, formula_of}
-use Rattle.qe_node.specs.Node.{Sight, sight_key, sight_of}
+use Rattle.qe_node.specs.Node.{Sight, sight_key}
 use Rattle.qe_node.specs.Successors.{is_true}
 use Rattle.qe_node.specs.Answer.{outcome}
 

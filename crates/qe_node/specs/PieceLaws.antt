@@ -1,7 +1,7 @@
 -- What holds of nodes as pieces: only a leaf is true, and a successor has fewer variables.
-use Rattle.std.specs.Prelude.{◌≡◌, refl, ℕ, suc, ◌<◌, ◌≤◌, Bool, true, false, not, ◌&&◌, eqb, cond, List, [], ◌∷◌, filter, map, length, Option, Some, None, Result, Ok, Err}
+use Rattle.std.specs.Prelude.{◌≡◌, refl, ℕ, ◌<◌, ◌≤◌, Bool, true, false, not, ◌&&◌, eqb, cond, List, [], ◌∷◌, filter, map, length, Option, Some, None, Result, Ok, Err}
 use Rattle.std.specs.List.{All}
-use Rattle.std.proofs.Common.{ap, sym, ◌∙◌, subst, inl, inr, arith}
+use Rattle.std.proofs.Common.{ap, sym, subst, inl, inr, arith}
 use Rattle.std.proofs.lemmas.List.Elements.{All-nil, All-cons}
 use Rattle.std.proofs.lemmas.Bool.{eq-eqb}
 use Rattle.qe_poly.specs.declared.monomial.Var.{Var}
@@ -15,9 +15,9 @@ use Rattle.qe_piece.specs.Meaning.{Child, Descends}
 use Rattle.qe_node.specs.declared.stop.NodeStop.{NodeStop}
 use Rattle.qe_node.specs.Key.{variables_of, formula_of, key}
 use Rattle.qe_node.specs.KeyLaws.{variables-key}
-use Rattle.qe_node.specs.Node.{Sight, sight_key, sight_of}
+use Rattle.qe_node.specs.Node.{sight_key, sight_of}
 use Rattle.qe_node.specs.Successors.{given_by, at_variable, at_choice, variables}
-use Rattle.qe_node.specs.Answer.{others, below, outcome_of, outcome}
+use Rattle.qe_node.specs.Answer.{others, below, outcome_of}
 use Rattle.qe_node.specs.Piece.{is_empty, leaf_of, truth_of, height_of, by_keys, meaning_of}
 
 both : (a b : Bool) → (a && b) ≡ true → a ≡ true

@@ -1,4 +1,4 @@
-use Rattle.std.proofs.Common.{◌≡◌, ◌++◌, drop, true}
+use Rattle.std.proofs.Common.{◌≡◌, drop, true}
 use Rattle.qe_form.specs.Tree.{tree}
 use Rattle.qe_node.specs.Successors.{given_by}
 use Rattle.qe_node.specs.Answer.{shown}

@@ -1,7 +1,6 @@
 use Rattle.std.proofs.Common.{◌∙◌, ap}
-use Rattle.qe_form.specs.Tree.{tree}
 use Rattle.qe_node.proofs.Remaining.{numbers, others_distinct, others_short}
-use Rattle.qe_node.proofs.Growing.{roots_of_each, growth_at, if_ok}
+use Rattle.qe_node.proofs.Growing.{if_ok}
 use Rattle.qe_node.proofs.growth.grow_at.Goals as goal
 
 pub grow-requires-clause-distinct : goal.grow-requires-clause-distinct

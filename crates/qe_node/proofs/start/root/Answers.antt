@@ -1,4 +1,4 @@
-use Rattle.std.proofs.Common.{map, refl}
+use Rattle.std.proofs.Common.{refl}
 use Rattle.qe_form.specs.Tree.{tree}
 use Rattle.qe_node.proofs.Remaining.{numbers, node_of}
 use Rattle.qe_node.proofs.start.root.Goals as goal
