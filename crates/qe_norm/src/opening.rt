@@ -38,8 +38,9 @@ pub fn prenex(alloc: Global, form: &Form, names: Names) -> Result<Prenex, NormSt
 /// `TooLarge` comes where the prenex form has more than 65,536 atoms, constants and quantifiers; it is not built then. The
 /// variables of the input are well numbered, and fewer than 2^31.
 ///
-/// The prenex form holds exactly where the input does. It is true where the input is, and false where it is. That it is the same, both ways, wants that what
-/// stands behind the outer quantifiers and negations is true or false at each point, as it is where excluded middle holds.
+/// The prenex form holds exactly where the input does. It is true where the input is, and false where that is false. The two are
+/// the same, both ways, where what stands behind the outer quantifiers and negations is true or false at each point, as it is with
+/// excluded middle.
 pub fn normal(alloc: Global, input: Input) -> Result<Prenex, NormStop>
     requires numbered { input_names.IsWellNumbered (tree input.form) input.names }
     requires few { length input.names < 2 ^ 31 }
