@@ -5,6 +5,9 @@ In one checkout `rt` proves one crate at a time, since it locks a crate with all
 copies of the sources, the lanes: what is proved in one checkout, `rt` hands to the others on the same machine, in the end to this
 one. The crates that the most work waits for go first, and before the others. The lanes of a run that was interrupted stay, and
 the next run goes on where that one was.
+
+A program that was built is kept under the sum of the kit's name and of all sources, so that another clone of the same sources on
+this machine need not build it again.
 """
 import hashlib
 import os
@@ -23,6 +26,9 @@ MEMORY = os.sysconf("SC_PAGE_SIZE") * os.sysconf("SC_PHYS_PAGES")
 LANES = max(1, min(CORES, MEMORY // (5 << 30)))
 MARK = hashlib.sha256(TOP.encode()).hexdigest()[:12]
 ROOM = f"{tempfile.gettempdir()}/qe-build-{os.getuid()}-{MARK}"
+BUILT = f"{TOP}/crates/{PROGRAM}/out/{PROGRAM}"
+KEPT = f"{os.environ.get('XDG_CACHE_HOME') or os.path.expanduser('~/.cache')}/qe"
+MOST_KEPT = 4
 
 
 def say(text):
@@ -49,6 +55,42 @@ def sources(folder):
     shutil.copytree(f"{TOP}/crates", f"{folder}/crates", ignore=shutil.ignore_patterns("out"))
     for name in ("crates.txt", "HANDLES"):
         shutil.copy(f"{TOP}/{name}", f"{folder}/{name}")
+
+
+def sum_of_sources(crates):
+    """A sum of all that the program is made of: the kit's name, crates.txt, and the sources of its crates."""
+    kit = subprocess.run(["rt", "version"], stdout=subprocess.PIPE, check=True).stdout
+    parts = [f"{TOP}/crates/{crate}/{part}" for crate in sorted(crates) for part in ("src", "specs", "proofs")]
+    files = [f"{at}/{name}" for part in parts for at, _, names in os.walk(part) for name in names]
+    whole = hashlib.sha256(kit)
+    for file in [f"{TOP}/crates.txt", *sorted(files)]:
+        with open(file, "rb") as it:
+            whole.update(f"{os.path.relpath(file, TOP)}\0{hashlib.sha256(it.read()).hexdigest()}\n".encode())
+    return whole.hexdigest()
+
+
+def take_kept(mark):
+    """Takes the program that was built of these sources before, and returns whether there was one."""
+    try:
+        os.makedirs(os.path.dirname(BUILT), exist_ok=True)
+        shutil.copy(f"{KEPT}/{mark}", f"{BUILT}.new")
+        os.rename(f"{BUILT}.new", BUILT)
+        os.utime(f"{KEPT}/{mark}")
+    except OSError:
+        return False
+    return True
+
+
+def keep(mark):
+    """Keeps the program, and the last few that were used. Where it cannot be kept, nothing is lost."""
+    try:
+        os.makedirs(KEPT, 0o700, exist_ok=True)
+        shutil.copy(BUILT, f"{KEPT}/{mark}.new")
+        os.rename(f"{KEPT}/{mark}.new", f"{KEPT}/{mark}")
+        for old in sorted(os.listdir(KEPT), key=lambda it: -os.stat(f"{KEPT}/{it}").st_mtime)[MOST_KEPT:]:
+            os.remove(f"{KEPT}/{old}")
+    except OSError:
+        pass
 
 
 def make_lane(number):
@@ -140,7 +182,7 @@ class Build:
         ran = subprocess.run(
             ["rt", "run"], cwd=f"{TOP}/crates/{PROGRAM}", stdin=subprocess.DEVNULL, stdout=subprocess.DEVNULL,
             stderr=subprocess.PIPE, text=True, errors="replace", check=False)
-        if not os.access(f"{TOP}/crates/{PROGRAM}/out/{PROGRAM}", os.X_OK):
+        if not os.access(BUILT, os.X_OK):
             say(f"{PROGRAM} is not built:\n{ran.stderr}")
             return 1
         say(f"{len(self.uses)} of {len(self.uses)} proved after {self.time()}: {PROGRAM}")
@@ -150,9 +192,15 @@ class Build:
 
 def main():
     uses = read_crates()
+    mark = sum_of_sources(uses)
+    if take_kept(mark):
+        return 0
     say(f"proving {len(uses)} crates and building the program: from nothing about ten minutes on four processors;")
     say("what is proved already is not proved again, and an interrupted run goes on where it was")
-    sys.exit(Build(uses).run())
+    status = Build(uses).run()
+    if not status:
+        keep(mark)
+    return status
 
 
-main()
+sys.exit(main())
