@@ -107,30 +107,39 @@ def make_lane(number):
     return lane
 
 
-def size_of(crate):
-    """The bytes of a crate's sources, which its proof takes time by."""
-    parts = [f"{TOP}/crates/{crate}/{part}" for part in ("src", "specs", "proofs")]
-    return sum(os.path.getsize(f"{at}/{name}") for part in parts for at, _, names in os.walk(part) for name in names)
+def cost_of(crate):
+    """What the proof of a crate costs, by the size of its code: loading the libraries is as dear as some 2,000 bytes of it."""
+    code = f"{TOP}/crates/{crate}/src"
+    return 2000 + sum(os.path.getsize(f"{at}/{name}") for at, _, names in os.walk(code) for name in names)
+
+
+def longest(uses):
+    """For each crate the most that a chain of crates costs which ends with it, its own cost among it."""
+    found = {}
+
+    def of(name):
+        if name not in found:
+            found[name] = cost_of(name) + max([of(it) for it in uses[name]], default=0)
+        return found[name]
+
+    for name in uses:
+        of(name)
+    return found
 
 
 class Build:
     def __init__(self, uses):
         self.uses = uses
-        self.work = {}
-        for name in uses:
-            self.work_above(name)
-        self.left = sorted(uses, key=lambda it: -self.work[it])
-        self.done, self.running, self.failed = set(), set(), None
+        below = longest(uses)
+        above = longest({name: [it for it, used in uses.items() if name in used] for name in uses})
+        whole = {name: below[name] + above[name] - cost_of(name) for name in uses}
+        # The crates on a chain that is nearly as long as the longest: the whole waits for them.
+        self.first = {name for name in uses if whole[name] >= 0.85 * max(whole.values())}
+        self.left = sorted(uses, key=lambda it: -above[it])
+        self.done, self.failed = set(), None
         self.lanes = [make_lane(number) for number in range(LANES)]
         self.turn = threading.Condition()
         self.start = time.monotonic()
-
-    def work_above(self, name):
-        """The most work in a chain of crates from this one up to the program."""
-        if name not in self.work:
-            above = [it for it, used in self.uses.items() if name in used]
-            self.work[name] = size_of(name) + max([self.work_above(it) for it in above], default=0)
-        return self.work[name]
 
     def next(self):
         """The crate that the most work waits for, of those that may be proved now."""
@@ -148,12 +157,9 @@ class Build:
                 if not name:
                     return
                 self.left.remove(name)
-                self.running.add(name)
-                first = self.work[name] == max(self.work[it] for it in self.running)
                 self.turn.release()
-                ran = self.prove(lane, name, first)
+                ran = self.prove(lane, name)
                 self.turn.acquire()
-                self.running.remove(name)
                 if ran.returncode:
                     self.failed = self.failed or (name, ran.stdout)
                 else:
@@ -161,9 +167,9 @@ class Build:
                     say(f"{len(self.done)} of {len(self.uses)} proved after {self.time()}: {name}")
                 self.turn.notify_all()
 
-    def prove(self, lane, name, first):
-        words = ["rt", "lib", "--jobs", str(CORES if first else max(1, CORES // 2))]
-        words = words if first else ["nice", "-n", "10", *words]
+    def prove(self, lane, name):
+        words = ["rt", "lib", "--jobs", str(CORES)]
+        words = words if name in self.first else ["nice", "-n", "15", *words]
         folder = f"{lane}/crates/{name}"
         how = {"stdin": subprocess.DEVNULL, "stdout": subprocess.PIPE, "stderr": subprocess.STDOUT}
         return subprocess.run(words, cwd=folder, text=True, errors="replace", check=False, **how)
