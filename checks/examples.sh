@@ -33,12 +33,12 @@ expect() {
   fi
 }
 
-# A formula that is written can be handed to the program again, and is then written as it was.
+# A formula that is written can be handed to the program again, and is then written as it was. Other commands write counts.
 try() {
   expect "$@"
-  case $3 in
+  case "$2: $3" in
     *'[exit status '*) ;;
-    *) expect "$1" "echo '$3' | ./qe" "$3" ;;
+    "echo '"*) expect "$1" "echo '$3' | ./qe" "$3" ;;
   esac
 }
 
