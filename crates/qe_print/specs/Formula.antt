@@ -6,8 +6,8 @@ use Rattle.qe_form.specs.Formula.{Formula, Formulas, True, False, Atom, And, Or,
 use Rattle.qe_print.specs.Polynomial.{name_of, polynomial_text}
 
 -- the relation that a set of signs stands for, by its bits: 1 for minus, 2 for zero, 4 for plus
-abbrev pub relation_text : ℕ → List ℕ
-relation_text n =
+abbrev pub relation_to_zero : ℕ → List ℕ
+relation_to_zero n =
     if n == 1 then codes " < 0" else
     if n == 2 then codes " = 0" else
     if n == 3 then codes " <= 0" else
@@ -18,7 +18,7 @@ relation_text n =
 abbrev pub atom_text : List (List ℕ) → atom.Atom → List ℕ
 atom_text names a =
     if bits a.signs == 0 then codes "false" else
-    if bits a.signs == 7 then codes "true" else polynomial_text names a.poly ++ relation_text (bits a.signs)
+    if bits a.signs == 7 then codes "true" else polynomial_text names a.poly ++ relation_to_zero (bits a.signs)
 
 -- a constant or an atom, which stands in no brackets
 abbrev pub is_simple : Formula → Bool
@@ -35,10 +35,10 @@ bracketed f text = if is_simple f then text else codes "[" ++ text ++ codes "]"
 abbrev pub part : Bool → Formula → List ℕ → List ℕ
 part alone f text = if alone then text else bracketed f text
 
-abbrev pub is_one : Formulas → Bool
-is_one no_more = false
-is_one (more f no_more) = true
-is_one (more f (more g fs)) = false
+abbrev pub is_single : Formulas → Bool
+is_single no_more = false
+is_single (more f no_more) = true
+is_single (more f (more g fs)) = false
 
 -- the text of a list of parts, from that of its parts where there are some
 abbrev pub list_text : List ℕ → Formulas → List ℕ → List ℕ
@@ -51,8 +51,8 @@ abbrev mutual
   formula_text names True = codes "true"
   formula_text names False = codes "false"
   formula_text names (Atom a) = atom_text names a
-  formula_text names (And fs) = list_text (codes "true") fs (parts_text names (codes " and ") true (is_one fs) fs)
-  formula_text names (Or fs) = list_text (codes "false") fs (parts_text names (codes " or ") true (is_one fs) fs)
+  formula_text names (And fs) = list_text (codes "true") fs (parts_text names (codes " and ") true (is_single fs) fs)
+  formula_text names (Or fs) = list_text (codes "false") fs (parts_text names (codes " or ") true (is_single fs) fs)
   formula_text names (Not f) = codes "not " ++ bracketed f (formula_text names f)
   formula_text names (Implies f g) = bracketed f (formula_text names f) ++ codes " implies " ++ bracketed g (formula_text names g)
   formula_text names (Iff f g) = bracketed f (formula_text names f) ++ codes " iff " ++ bracketed g (formula_text names g)

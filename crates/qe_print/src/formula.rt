@@ -5,7 +5,7 @@ ghost use Rattle.qe_print.specs.Polynomial.{name_of};
 ghost use Rattle.std.specs.String.{string_bytes};
 ghost use Rattle.qe_form.specs.Signs.{bits};
 ghost use Rattle.qe_form.specs.Tree.{tree, trees};
-ghost use Rattle.qe_print.specs.Formula.{relation_text, atom_text, is_simple, bracketed, part, is_one, list_text, formula_text, parts_text};
+ghost use Rattle.qe_print.specs.Formula.{relation_to_zero, atom_text, is_simple, bracketed, part, is_single, list_text, formula_text, parts_text};
 
 use crate::OutOfMemory;
 use crate::polynomial::{name_of, push_poly};
@@ -14,7 +14,7 @@ use std::alloc::Global;
 
 /// The relation to 0 that a set of some signs, but not all, stands for.
 fn relation_of(signs: Signs) -> &'static str
-    ensures { result.now ≡ relation_text (bits signs) }
+    ensures { result.now ≡ relation_to_zero (bits signs) }
 {
     match signs.bits() {
         1 => " < 0",
@@ -72,7 +72,7 @@ fn push_parts(
     joint: &str,
     none: &str,
 ) -> Result<(), OutOfMemory>
-    ensures { OnOk result (string_bytes out.new ≡ string_bytes out.old ++ list_text none.now (trees forms.now) (parts_text names.now joint.now true (is_one (trees forms.now)) (trees forms.now))) }
+    ensures { OnOk result (string_bytes out.new ≡ string_bytes out.old ++ list_text none.now (trees forms.now) (parts_text names.now joint.now true (is_single (trees forms.now)) (trees forms.now))) }
 {
     let items = forms.items();
     if items.is_empty() {

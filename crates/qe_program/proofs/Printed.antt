@@ -11,7 +11,7 @@ use Rattle.qe_form.specs.Signs.{bits}
 use Rattle.qe_form.specs.Formula.{Formula, Formulas, True, False, Atom, And, Or, Not, Implies, Iff, Ex, All, no_more, more}
 use Rattle.qe_form.specs.Same.{OccursIn, OccursInSome, IsFree, IsFreeInSome, HasNoQuantifier, HaveNoQuantifier}
 use Rattle.qe_print.specs.Polynomial.{name_of, power_text, factors_text, term_text, terms_text, polynomial_text}
-use Rattle.qe_print.specs.Formula.{relation_text, atom_text, bracketed, part, is_one, list_text, formula_text, parts_text}
+use Rattle.qe_print.specs.Formula.{relation_to_zero, atom_text, bracketed, part, is_single, list_text, formula_text, parts_text}
 use Rattle.qe_read.specs.Names.{Letters}
 use Rattle.qe_norm.specs.declared.walk.Renaming.{Renaming}
 use Rattle.qe_norm.specs.NormalForm.{normal_form}
@@ -58,7 +58,7 @@ module _ (a b : List (List ℕ)) where
 
   same_atom : (c : atom.Atom) → NamedAlike (λ x. OccursInSome x c.poly) → atom_text a c ≡ atom_text b c
   same_atom c h =
-      ap (λ text. if bits c.signs == 0 then codes "false" else if bits c.signs == 7 then codes "true" else text ++ relation_text (bits c.signs))
+      ap (λ text. if bits c.signs == 0 then codes "false" else if bits c.signs == 7 then codes "true" else text ++ relation_to_zero (bits c.signs))
       (same_polynomial c.poly h)
 
   mutual
@@ -66,8 +66,8 @@ module _ (a b : List (List ℕ)) where
     same_formula True n h = refl
     same_formula False n h = refl
     same_formula (Atom c) n h = same_atom c h
-    same_formula (And fs) n h = ap (list_text (codes "true") fs) (same_parts (codes " and ") true (is_one fs) fs n h)
-    same_formula (Or fs) n h = ap (list_text (codes "false") fs) (same_parts (codes " or ") true (is_one fs) fs n h)
+    same_formula (And fs) n h = ap (list_text (codes "true") fs) (same_parts (codes " and ") true (is_single fs) fs n h)
+    same_formula (Or fs) n h = ap (list_text (codes "false") fs) (same_parts (codes " or ") true (is_single fs) fs n h)
     same_formula (Not f) n h = ap (λ text. codes "not " ++ bracketed f text) (same_formula f n h)
     same_formula (Implies f g) n h =
         let first = same_formula f n.0 (λ x o. h x (inl o)) in

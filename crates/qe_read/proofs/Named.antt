@@ -7,7 +7,7 @@ use Rattle.qe_token.specs.declared.token.Name.{Name}
 use Rattle.qe_syntax.specs.Tree as tree
 use Rattle.qe_syntax.specs.Tree.{TermTree, Addends, no_addend, addend, Factors, no_factor, factor, FormulaTree, FormulaTrees, no_more, more}
 use Rattle.qe_syntax.specs.Grammar as grammar
-use Rattle.qe_syntax.specs.Grammar.{Mark, plain, summed, multiplied, conjoined, disjoined, bound, linked, sign_token, quantifier_token, arrow_token, constant_token, term_tree, sums_tree, product_tree, times_tree, signed_tree, power_tree, primary_tree, atom_tree, formula_tree, scope_tree, simple_tree, disj_tree, ors_trees, conj_tree, ands_trees, unary_tree, texts, ended, input, the_end}
+use Rattle.qe_syntax.specs.Grammar.{Occurrence, plain, sum_of, product_of, conjoined, disjoined, bound, linked, plus_or_minus, quantifier_token, arrow_token, constant_token, term_tree, sums_tree, product_tree, times_tree, signed_tree, power_tree, primary_tree, atom_tree, formula_tree, scope_tree, simple_tree, disj_tree, ors_trees, conj_tree, ands_trees, unary_tree, tokens_of, with_end, input, the_end}
 
 -- the names in a term, in the order of the text
 abbrev mutual
@@ -54,17 +54,17 @@ abbrev pub named : List (Option Token) → List Name
 named [] = []
 named (t ∷ ts) = name_in t ++ named ts
 
-abbrev marked : List Mark → List Name
-marked ms = named (texts ms)
+abbrev marked : List Occurrence → List Name
+marked ms = named (tokens_of ms)
 
 joined : (whole a mid b rest : List Name) → whole ≡ a ++ mid → mid ≡ b ++ rest → whole ≡ (a ++ b) ++ rest
 joined whole a mid b rest h k = h ∙ ap (λ ns. a ++ ns) k ∙ sym (append_assoc a b rest)
 
-pub all_summed : (t : TermTree) (us : Addends) → all_in (summed t us) ≡ all_in t ++ all_in_addends us
+pub all_summed : (t : TermTree) (us : Addends) → all_in (sum_of t us) ≡ all_in t ++ all_in_addends us
 all_summed t no_addend = sym (append-nil (all_in t))
 all_summed t (addend p minus u us) = refl
 
-pub all_multiplied : (t : TermTree) (us : Factors) → all_in (multiplied t us) ≡ all_in t ++ all_in_factors us
+pub all_multiplied : (t : TermTree) (us : Factors) → all_in (product_of t us) ≡ all_in t ++ all_in_factors us
 all_multiplied t no_factor = sym (append-nil (all_in t))
 all_multiplied t (factor p u us) = refl
 
@@ -84,7 +84,7 @@ all_bound : (all : Bool) (x : Name) (f : FormulaTree) → all_names (bound all x
 all_bound true x f = refl
 all_bound false x f = refl
 
-no_sign : (at : ℕ) (minus : Bool) → name_in (Some (sign_token at minus)) ≡ []
+no_sign : (at : ℕ) (minus : Bool) → name_in (Some (plus_or_minus at minus)) ≡ []
 no_sign at true = refl
 no_sign at false = refl
 
@@ -97,76 +97,76 @@ no_arrow true = refl
 no_arrow false = refl
 
 mutual
-  in_term : (d : ℕ) (b : Bool) (t : grammar.Term) (rest : List Mark) → marked (grammar.term d b t rest) ≡ all_in (term_tree t) ++ marked rest
+  in_term : (d : ℕ) (b : Bool) (t : grammar.Term) (rest : List Occurrence) → marked (grammar.term d b t rest) ≡ all_in (term_tree t) ++ marked rest
   in_term d b (grammar.sum p ps) rest =
       joined _ _ _ _ _ (in_product d b p (grammar.sums d ps rest)) (in_sums d ps rest) ∙ ap (λ ns. ns ++ marked rest) (sym (all_summed (product_tree p) (sums_tree ps)))
 
-  in_sums : (d : ℕ) (ps : grammar.Sums) (rest : List Mark) → marked (grammar.sums d ps rest) ≡ all_in_addends (sums_tree ps) ++ marked rest
+  in_sums : (d : ℕ) (ps : grammar.Sums) (rest : List Occurrence) → marked (grammar.sums d ps rest) ≡ all_in_addends (sums_tree ps) ++ marked rest
   in_sums d grammar.no_sum rest = refl
   in_sums d (grammar.sign at minus p ps) rest =
       ap (λ ns. ns ++ marked (grammar.product d false p (grammar.sums d ps rest))) (no_sign at minus)
       ∙ joined _ _ _ _ _ (in_product d false p (grammar.sums d ps rest)) (in_sums d ps rest)
 
-  in_product : (d : ℕ) (b : Bool) (p : grammar.Product) (rest : List Mark) → marked (grammar.product d b p rest) ≡ all_in (product_tree p) ++ marked rest
+  in_product : (d : ℕ) (b : Bool) (p : grammar.Product) (rest : List Occurrence) → marked (grammar.product d b p rest) ≡ all_in (product_tree p) ++ marked rest
   in_product d b (grammar.factors s ss) rest =
       joined _ _ _ _ _ (in_signed d b s (grammar.timeses d ss rest)) (in_timeses d ss rest) ∙ ap (λ ns. ns ++ marked rest) (sym (all_multiplied (signed_tree s) (times_tree ss)))
 
-  in_timeses : (d : ℕ) (ss : grammar.Times) (rest : List Mark) → marked (grammar.timeses d ss rest) ≡ all_in_factors (times_tree ss) ++ marked rest
+  in_timeses : (d : ℕ) (ss : grammar.Times) (rest : List Occurrence) → marked (grammar.timeses d ss rest) ≡ all_in_factors (times_tree ss) ++ marked rest
   in_timeses d grammar.no_times rest = refl
   in_timeses d (grammar.times at s ss) rest = joined _ _ _ _ _ (in_signed d false s (grammar.timeses d ss rest)) (in_timeses d ss rest)
 
-  in_signed : (d : ℕ) (b : Bool) (s : grammar.Signed) (rest : List Mark) → marked (grammar.signed d b s rest) ≡ all_in (signed_tree s) ++ marked rest
+  in_signed : (d : ℕ) (b : Bool) (s : grammar.Signed) (rest : List Occurrence) → marked (grammar.signed d b s rest) ≡ all_in (signed_tree s) ++ marked rest
   in_signed d b (grammar.negative at s) rest = in_signed (d + 1) false s rest
   in_signed d b (grammar.positive p) rest = in_power d b p rest
 
-  in_power : (d : ℕ) (b : Bool) (p : grammar.Power) (rest : List Mark) → marked (grammar.power d b p rest) ≡ all_in (power_tree p) ++ marked rest
+  in_power : (d : ℕ) (b : Bool) (p : grammar.Power) (rest : List Occurrence) → marked (grammar.power d b p rest) ≡ all_in (power_tree p) ++ marked rest
   in_power d b (grammar.base q) rest = in_primary d b q rest
   in_power d b (grammar.raised q at n) rest = in_primary d b q (plain (token.Caret at) ∷ grammar.figure n (grammar.exponent (grammar.is_name q)) false ∷ rest)
 
-  in_primary : (d : ℕ) (b : Bool) (q : grammar.Primary) (rest : List Mark) → marked (grammar.primary d b q rest) ≡ all_in (primary_tree q) ++ marked rest
+  in_primary : (d : ℕ) (b : Bool) (q : grammar.Primary) (rest : List Occurrence) → marked (grammar.primary d b q rest) ≡ all_in (primary_tree q) ++ marked rest
   in_primary d b (grammar.number n) rest = refl
   in_primary d b (grammar.name x) rest = refl
   in_primary d b (grammar.group t) rest = in_term (d + 1) false t (plain token.CloseParenthesis ∷ rest)
 
-in_atom : (d : ℕ) (a : grammar.Atom) (rest : List Mark) → marked (grammar.comparison d a rest) ≡ all_names (atom_tree a) ++ marked rest
+in_atom : (d : ℕ) (a : grammar.Atom) (rest : List Occurrence) → marked (grammar.comparison d a rest) ≡ all_names (atom_tree a) ++ marked rest
 in_atom d (grammar.compare t at r u) rest = joined _ _ _ _ _ (in_term d true t (plain (token.Relation at r) ∷ grammar.term d false u rest)) (in_term d false u rest)
 
 mutual
-  in_formula : (d : ℕ) (f : grammar.Formula) (rest : List Mark) → marked (grammar.formula d f rest) ≡ all_names (formula_tree f) ++ marked rest
+  in_formula : (d : ℕ) (f : grammar.Formula) (rest : List Occurrence) → marked (grammar.formula d f rest) ≡ all_names (formula_tree f) ++ marked rest
   in_formula d (grammar.quantified all x s) rest =
       ap (λ ns. ns ++ (x ∷ marked (grammar.scope (d + 1) s rest))) (no_quantifier all)
       ∙ ap (λ ns. x ∷ ns) (in_scope (d + 1) all s rest)
       ∙ ap (λ ns. ns ++ marked rest) (sym (all_bound all x (scope_tree all s)))
   in_formula d (grammar.open_formula s) rest = in_simple d s rest
 
-  in_scope : (d : ℕ) (all : Bool) (s : grammar.Scope) (rest : List Mark) → marked (grammar.scope d s rest) ≡ all_names (scope_tree all s) ++ marked rest
+  in_scope : (d : ℕ) (all : Bool) (s : grammar.Scope) (rest : List Occurrence) → marked (grammar.scope d s rest) ≡ all_names (scope_tree all s) ++ marked rest
   in_scope d all (grammar.further x s) rest =
       ap (λ ns. x ∷ ns) (in_scope (d + 1) all s rest) ∙ ap (λ ns. ns ++ marked rest) (sym (all_bound all x (scope_tree all s)))
   in_scope d all (grammar.body f) rest = in_formula d f rest
 
-  in_simple : (d : ℕ) (s : grammar.Simple) (rest : List Mark) → marked (grammar.simple d s rest) ≡ all_names (simple_tree s) ++ marked rest
+  in_simple : (d : ℕ) (s : grammar.Simple) (rest : List Occurrence) → marked (grammar.simple d s rest) ≡ all_names (simple_tree s) ++ marked rest
   in_simple d (grammar.alone e) rest = in_disj d e rest
   in_simple d (grammar.joined both e f) rest =
       joined _ _ _ _ _ (in_disj d e (plain (arrow_token both) ∷ grammar.disj d f rest)) (ap (λ ns. ns ++ marked (grammar.disj d f rest)) (no_arrow both) ∙ in_disj d f rest)
       ∙ ap (λ ns. ns ++ marked rest) (sym (all_linked both (disj_tree e) (disj_tree f)))
 
-  in_disj : (d : ℕ) (e : grammar.Disj) (rest : List Mark) → marked (grammar.disj d e rest) ≡ all_names (disj_tree e) ++ marked rest
+  in_disj : (d : ℕ) (e : grammar.Disj) (rest : List Occurrence) → marked (grammar.disj d e rest) ≡ all_names (disj_tree e) ++ marked rest
   in_disj d (grammar.ors c cs) rest =
       joined _ _ _ _ _ (in_conj d c (grammar.orses d cs rest)) (in_orses d cs rest) ∙ ap (λ ns. ns ++ marked rest) (sym (all_disjoined (conj_tree c) (ors_trees cs)))
 
-  in_orses : (d : ℕ) (cs : grammar.Ors) (rest : List Mark) → marked (grammar.orses d cs rest) ≡ all_names_each (ors_trees cs) ++ marked rest
+  in_orses : (d : ℕ) (cs : grammar.Ors) (rest : List Occurrence) → marked (grammar.orses d cs rest) ≡ all_names_each (ors_trees cs) ++ marked rest
   in_orses d grammar.no_or rest = refl
   in_orses d (grammar.or c cs) rest = joined _ _ _ _ _ (in_conj d c (grammar.orses d cs rest)) (in_orses d cs rest)
 
-  in_conj : (d : ℕ) (c : grammar.Conj) (rest : List Mark) → marked (grammar.conj d c rest) ≡ all_names (conj_tree c) ++ marked rest
+  in_conj : (d : ℕ) (c : grammar.Conj) (rest : List Occurrence) → marked (grammar.conj d c rest) ≡ all_names (conj_tree c) ++ marked rest
   in_conj d (grammar.ands u us) rest =
       joined _ _ _ _ _ (in_unary d u (grammar.andses d us rest)) (in_andses d us rest) ∙ ap (λ ns. ns ++ marked rest) (sym (all_conjoined (unary_tree u) (ands_trees us)))
 
-  in_andses : (d : ℕ) (us : grammar.Ands) (rest : List Mark) → marked (grammar.andses d us rest) ≡ all_names_each (ands_trees us) ++ marked rest
+  in_andses : (d : ℕ) (us : grammar.Ands) (rest : List Occurrence) → marked (grammar.andses d us rest) ≡ all_names_each (ands_trees us) ++ marked rest
   in_andses d grammar.no_and rest = refl
   in_andses d (grammar.and u us) rest = joined _ _ _ _ _ (in_unary d u (grammar.andses d us rest)) (in_andses d us rest)
 
-  in_unary : (d : ℕ) (u : grammar.Unary) (rest : List Mark) → marked (grammar.unary d u rest) ≡ all_names (unary_tree u) ++ marked rest
+  in_unary : (d : ℕ) (u : grammar.Unary) (rest : List Occurrence) → marked (grammar.unary d u rest) ≡ all_names (unary_tree u) ++ marked rest
   in_unary d (grammar.not u) rest = in_unary (d + 1) u rest
   in_unary d (grammar.constant true) rest = refl
   in_unary d (grammar.constant false) rest = refl
@@ -174,5 +174,5 @@ mutual
   in_unary d (grammar.atom a) rest = in_atom d a rest
 
 -- all names of the tree are those among the tokens
-pub in_text : (f : grammar.Formula) (tokens : List Located) → texts (input f) ≡ ended tokens → named (ended tokens) ≡ all_names (formula_tree f)
+pub in_text : (f : grammar.Formula) (tokens : List Located) → tokens_of (input f) ≡ with_end tokens → named (with_end tokens) ≡ all_names (formula_tree f)
 in_text f tokens e = ap named (sym e) ∙ in_formula 0 f (the_end ∷ []) ∙ append-nil (all_names (formula_tree f))

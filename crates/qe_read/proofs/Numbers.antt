@@ -20,9 +20,9 @@ use Rattle.qe_form.specs.Formula.{Formula, Formulas}
 use Rattle.qe_form.specs.Same.{IsFree, IsFreeInSome}
 use Rattle.qe_read.specs.declared.scope.Binder.{Binder}
 use Rattle.qe_read.specs.declared.value.Met.{Met}
-use Rattle.qe_read.specs.Names.{Letters, letters, letters_cmp, is_same, rank, bound_to, or_free, variable}
+use Rattle.qe_read.specs.Names.{Letters, letters, letters_cmp, is_same, names_before, bound_to, or_free, variable}
 use Rattle.qe_read.specs.FreeNames.{is_bound, free_in, free_in_addends, free_in_factors, free_names, free_names_each}
-use Rattle.qe_read.specs.Value.{next, value, added}
+use Rattle.qe_read.specs.Value.{proceed, value, added}
 use Rattle.qe_read.specs.Formula.{bound_names, names_bound_in, binder, atom_value, formula, formulas}
 use Rattle.qe_form.specs.Tree as code
 use Rattle.qe_form.specs.declared.names.Input.{Input}
@@ -41,9 +41,9 @@ few_one : (b : Bool) (m n : ℕ) → m ≤ n → cond b (suc m) m ≤ suc n
 few_one true m n h = omega arith
 few_one false m n h = omega arith
 
-few_before : (names : List Letters) (w : Letters) → rank names w ≤ length names
+few_before : (names : List Letters) (w : Letters) → names_before names w ≤ length names
 few_before [] w = omega arith
-few_before (v ∷ vs) w = few_one (is_lt (letters_cmp v w)) (rank vs w) (length vs) (few_before vs w)
+few_before (v ∷ vs) w = few_one (is_lt (letters_cmp v w)) (names_before vs w) (length vs) (few_before vs w)
 
 not_less : (o : Ordering) → (o ≡ Less → ⊥) → is_lt o ≡ false
 not_less Less h = absurd (h refl)
@@ -54,13 +54,13 @@ below_one : (b : Bool) (m n : ℕ) → m < n → cond b (suc m) m < suc n
 below_one true m n h = omega arith
 below_one false m n h = omega arith
 
-below_at : (v : Letters) (vs : List Letters) (w : Letters) → (Contains vs w → rank vs w < length vs) → (v ≡ w) ⊎ Contains vs w → rank (v ∷ vs) w < suc (length vs)
+below_at : (v : Letters) (vs : List Letters) (w : Letters) → (Contains vs w → names_before vs w < length vs) → (v ≡ w) ⊎ Contains vs w → names_before (v ∷ vs) w < suc (length vs)
 below_at v vs w h (inl e) =
     let same : is_lt (letters_cmp v w) ≡ false = not_less (letters_cmp v w) (λ l. irreflexive w (subst (λ u. letters_cmp u w ≡ Less) e l)) in
     rw same (omega (arith, few_before vs w))
-below_at v vs w h (inr d) = below_one (is_lt (letters_cmp v w)) (rank vs w) (length vs) (h d)
+below_at v vs w h (inr d) = below_one (is_lt (letters_cmp v w)) (names_before vs w) (length vs) (h d)
 
-rank_below : (names : List Letters) (w : Letters) → Contains names w → rank names w < length names
+rank_below : (names : List Letters) (w : Letters) → Contains names w → names_before names w < length names
 rank_below [] w (k, h, e) = absurd (omega arith)
 rank_below (v ∷ vs) w c = below_at v vs w (λ d. rank_below vs w d) (first_or_later v vs w c)
 
@@ -77,11 +77,11 @@ abbrev pub Gives : {A : Type 0} → (A → Type 0) → Result A Met → Type 0
 Gives P (Ok a) = P a
 Gives P (Err met) = Unit {0}
 
-pub gives_next : {A B : Type 0} (P : A → Type 0) (Q : B → Type 0) (v : Result A Met) (f : A → Result B Met) → Gives P v → ((a : A) → P a → Gives Q (f a)) → Gives Q (next v f)
+pub gives_next : {A B : Type 0} (P : A → Type 0) (Q : B → Type 0) (v : Result A Met) (f : A → Result B Met) → Gives P v → ((a : A) → P a → Gives Q (f a)) → Gives Q (proceed v f)
 gives_next P Q (Ok a) f h k = k a h
 gives_next P Q (Err met) f h k = tt
 
-pub gives_equal : {A B : Type 0} (Q : B → Type 0) (v : Result A Met) (f : A → Result B Met) → ((a : A) → v ≡ Ok a → Gives Q (f a)) → Gives Q (next v f)
+pub gives_equal : {A B : Type 0} (Q : B → Type 0) (v : Result A Met) (f : A → Result B Met) → ((a : A) → v ≡ Ok a → Gives Q (f a)) → Gives Q (proceed v f)
 gives_equal Q (Ok a) f k = k a refl
 gives_equal Q (Err met) f k = tt
 

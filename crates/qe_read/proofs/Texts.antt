@@ -6,7 +6,7 @@ use Rattle.qe_token.specs.declared.token.Name.{Name}
 use Rattle.qe_token.specs.Tokens.{AreTokens}
 use Rattle.qe_syntax.specs.Tree.{FormulaTree}
 use Rattle.qe_syntax.specs.Faults.{IsText}
-use Rattle.qe_syntax.specs.Grammar.{ended}
+use Rattle.qe_syntax.specs.Grammar.{with_end}
 use Rattle.qe_poly.specs.declared.limit.PolyLimit.{PolyLimit}
 use Rattle.qe_poly.specs.declared.limit.PolyLimit.TheVariants as limits
 use Rattle.qe_form.specs.declared.names.Input.{Input}
@@ -25,7 +25,7 @@ use Rattle.qe_read.proofs.Kept.{free_each, bound_each, few_names}
 
 -- the names of a tree that these tokens stand for
 module _ (bytes : List ℕ) (tokens : List Located) (of : FormulaTree) (are : AreTokens 0 bytes tokens) (text : IsText tokens of) where
-  the_names : named (ended tokens) ≡ all_names of
+  the_names : named (with_end tokens) ≡ all_names of
   the_names = in_text text.derived tokens text.spelled ∙ ap all_names text.stands_for
 
   each : AllByRecursion (IsTextIn bytes) (all_names of)

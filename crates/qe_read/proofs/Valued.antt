@@ -9,13 +9,13 @@ use Rattle.qe_poly.specs.Limits.{sum_limit, product_limit}
 use Rattle.qe_poly.specs.Polynomial.{Polynomial, constant, power_of, negative, sum, difference, product}
 use Rattle.qe_syntax.specs.Tree.{TermTree, Number, Variable, Negative, Power, Sum, Product, Addends, no_addend, addend, Factors, no_factor, factor}
 use Rattle.qe_read.specs.declared.value.Met.{Met}
-use Rattle.qe_read.specs.Value.{Value, next, at, added, multiplied, repeated, raised, power_value, name_of, literal, value, summed, factored}
+use Rattle.qe_read.specs.Value.{Value, proceed, at, added, multiplied, repeated, raised, power_value, as_name, literal, value, summed, factored}
 use Rattle.qe_read.proofs.Named.{all_in, all_in_addends, all_in_factors}
 use Rattle.qe_read.proofs.Kept.{front, behind}
 use Rattle.qe_read.proofs.Variables.{Have, of_negative, of_sum, of_difference, of_product, of_constant, of_power}
 
 -- a result behind another has both
-pub next_ok : {A B : Type 0} (v : Result A Met) (f : A → Result B Met) (b : B) → next v f ≡ Ok b → (a : A) × (v ≡ Ok a) × (f a ≡ Ok b)
+pub next_ok : {A B : Type 0} (v : Result A Met) (f : A → Result B Met) (b : B) → proceed v f ≡ Ok b → (a : A) × (v ≡ Ok a) × (f a ≡ Ok b)
 next_ok (Ok a) f b h = (a, refl, h)
 next_ok (Err met) f b h = absurd (cc)
 
@@ -51,7 +51,7 @@ module _ (Q : ℕ → Type 0) (var : Name → Var) where
   abbrev All : List Name → Type 0
   All = AllByRecursion (λ x. Q (var x).0)
 
-  named : (t : TermTree) (x : Name) → All (all_in t) → name_of t ≡ Some x → Q (var x).0
+  named : (t : TermTree) (x : Name) → All (all_in t) → as_name t ≡ Some x → Q (var x).0
   named (Variable y) x h e = let f : y ≡ x = cc in subst (λ z. Q (var z).0) f h.0
   named (Number n) x h e = absurd (cc)
   named (Negative t) x h e = absurd (cc)
@@ -65,7 +65,7 @@ module _ (Q : ℕ → Type 0) (var : Name → Var) where
     of_value (Variable x) q h e = ok (power_of (var x) 1) q (of_power Q (var x) 1 h.0) e
     of_value (Negative t) q h e =
         let r = next_ok (value var t) (λ a. Ok (negative a)) q e in ok (negative r.0) q (of_negative Q r.0 (of_value t r.0 h r.1)) r.2
-    of_value (Power t p n) q h e = of_power_value (name_of t) (value var t) p n q (λ x f. named t x h f) (λ a f. of_value t a h f) e
+    of_value (Power t p n) q h e = of_power_value (as_name t) (value var t) p n q (λ x f. named t x h f) (λ a f. of_value t a h f) e
     of_value (Sum t us) q h e =
         let r = next_ok (value var t) (summed var us) q e in
         of_summed us r.0 q (of_value t r.0 (front (λ x. Q (var x).0) (all_in t) (all_in_addends us) h) r.1) (behind (λ x. Q (var x).0) (all_in t) (all_in_addends us) h) r.2
@@ -76,7 +76,7 @@ module _ (Q : ℕ → Type 0) (var : Name → Var) where
     of_summed : (us : Addends) (a q : Polynomial) → Have Q a → All (all_in_addends us) → summed var us a ≡ Ok q → Have Q q
     of_summed no_addend a q k h e = ok a q k e
     of_summed (addend p minus t us) a q k h e =
-        let r = next_ok (value var t) (λ b. next (added p minus a b) (summed var us)) q e in
+        let r = next_ok (value var t) (λ b. proceed (added p minus a b) (summed var us)) q e in
         let s = next_ok (added p minus a r.0) (summed var us) q r.2 in
         let b = of_value t r.0 (front (λ x. Q (var x).0) (all_in t) (all_in_addends us) h) r.1 in
         of_summed us s.0 q (of_added p minus a r.0 s.0 k b s.1) (behind (λ x. Q (var x).0) (all_in t) (all_in_addends us) h) s.2
@@ -84,7 +84,7 @@ module _ (Q : ℕ → Type 0) (var : Name → Var) where
     of_factored : (us : Factors) (a q : Polynomial) → Have Q a → All (all_in_factors us) → factored var us a ≡ Ok q → Have Q q
     of_factored no_factor a q k h e = ok a q k e
     of_factored (factor p t us) a q k h e =
-        let r = next_ok (value var t) (λ b. next (multiplied p a b) (factored var us)) q e in
+        let r = next_ok (value var t) (λ b. proceed (multiplied p a b) (factored var us)) q e in
         let s = next_ok (multiplied p a r.0) (factored var us) q r.2 in
         let b = of_value t r.0 (front (λ x. Q (var x).0) (all_in t) (all_in_factors us) h) r.1 in
         of_factored us s.0 q (of_multiplied p a r.0 s.0 k b s.1) (behind (λ x. Q (var x).0) (all_in t) (all_in_factors us) h) s.2

@@ -13,7 +13,7 @@ use Rattle.qe_token.specs.declared.token.Located.{Located}
 use Rattle.qe_token.specs.declared.token.Name.{Name}
 use Rattle.qe_token.specs.Bytes.{is_name_byte, is_letter, begins}
 use Rattle.qe_token.specs.Tokens.{AreTokens, Spells, IsWord, WordIs}
-use Rattle.qe_syntax.specs.Grammar.{ended}
+use Rattle.qe_syntax.specs.Grammar.{with_end}
 use Rattle.qe_read.specs.Names.{letters}
 use Rattle.qe_read.proofs.Named.{name_in, named}
 
@@ -56,7 +56,7 @@ module _ (P : List ℕ → Type 0) (of_word : (word : List ℕ) → IsWord word 
   name_of_token bytes front word rest place t later b p s h = (h.0, omega (arith, h.1))
 
   words : (bytes front left : List ℕ) (place : ℕ) (ts : List Located) → bytes ≡ front ++ left → place ≡ length front → AreTokens place left ts
-      → AllByRecursion (Is bytes) (named (ended ts)) × (length (named (ended ts)) ≤ length left)
+      → AllByRecursion (Is bytes) (named (with_end ts)) × (length (named (with_end ts)) ≤ length left)
   words bytes front left place [] b p a = (tt, omega arith)
   words bytes front left place (t ∷ ts) b p (before, word, rest, l, k, q, s, g, a) =
       let behind : bytes ≡ (front ++ before) ++ (word ++ rest) = b ∙ ap (λ r. front ++ r) l ∙ sym (append_assoc front before (word ++ rest)) in
@@ -64,15 +64,15 @@ module _ (P : List ℕ → Type 0) (of_word : (word : List ℕ) → IsWord word 
       let further : bytes ≡ ((front ++ before) ++ word) ++ rest = behind ∙ sym (append_assoc (front ++ before) word rest) in
       let there : t.place + length word ≡ length ((front ++ before) ++ word) = omega (arith, length-append (front ++ before) word) in
       let later = words bytes ((front ++ before) ++ word) rest (t.place + length word) ts further there a in
-      let both = name_of_token bytes (front ++ before) word rest t.place t.token (named (ended ts)) behind here s later in
+      let both = name_of_token bytes (front ++ before) word rest t.place t.token (named (with_end ts)) behind here s later in
       (both.0, omega (arith, both.1, ap length l, length-append before (word ++ rest), length-append word rest))
 
   -- of all bytes
-  pub each_word : (bytes : List ℕ) (ts : List Located) → AreTokens 0 bytes ts → AllByRecursion (λ x. P (letters bytes x)) (named (ended ts)) × (length (named (ended ts)) ≤ length bytes)
+  pub each_word : (bytes : List ℕ) (ts : List Located) → AreTokens 0 bytes ts → AllByRecursion (λ x. P (letters bytes x)) (named (with_end ts)) × (length (named (with_end ts)) ≤ length bytes)
   each_word bytes ts a = words bytes [] bytes 0 ts refl refl a
 
 abbrev pub IsTextIn : List ℕ → Name → Type 0
 IsTextIn bytes x = IsUtf8 (letters bytes x)
 
-pub words_of : (bytes : List ℕ) (ts : List Located) → AreTokens 0 bytes ts → AllByRecursion (IsTextIn bytes) (named (ended ts)) × (length (named (ended ts)) ≤ length bytes)
+pub words_of : (bytes : List ℕ) (ts : List Located) → AreTokens 0 bytes ts → AllByRecursion (IsTextIn bytes) (named (with_end ts)) × (length (named (with_end ts)) ≤ length bytes)
 words_of = each_word IsUtf8 (λ word is other. IsUtf8-from_ascii word (word_ascii word is.1))

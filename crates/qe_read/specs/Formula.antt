@@ -13,16 +13,16 @@ use Rattle.qe_read.specs.declared.value.Met.{Met}
 use Rattle.qe_read.specs.declared.value.ValueStop.{ValueStop}
 use Rattle.qe_read.specs.declared.scope.Binder.{Binder}
 use Rattle.qe_read.specs.Names.{Letters, variable}
-use Rattle.qe_read.specs.Value.{Value, next, value, added, Stops}
+use Rattle.qe_read.specs.Value.{Value, proceed, value, added, Stops}
 
 -- the signs that the left term less the right one may have
-abbrev pub signs_of : Relation → Signs
-signs_of relation.Equal = record { minus = false; zero = true; plus = false }
-signs_of relation.NotEqual = record { minus = true; zero = false; plus = true }
-signs_of relation.Less = record { minus = true; zero = false; plus = false }
-signs_of relation.LessOrEqual = record { minus = true; zero = true; plus = false }
-signs_of relation.Greater = record { minus = false; zero = false; plus = true }
-signs_of relation.GreaterOrEqual = record { minus = false; zero = true; plus = true }
+abbrev pub relation_signs : Relation → Signs
+relation_signs relation.Equal = record { minus = false; zero = true; plus = false }
+relation_signs relation.NotEqual = record { minus = true; zero = false; plus = true }
+relation_signs relation.Less = record { minus = true; zero = false; plus = false }
+relation_signs relation.LessOrEqual = record { minus = true; zero = true; plus = false }
+relation_signs relation.Greater = record { minus = false; zero = false; plus = true }
+relation_signs relation.GreaterOrEqual = record { minus = false; zero = true; plus = true }
 
 -- the names that the quantifiers bind, in the order of the text
 abbrev mutual
@@ -48,11 +48,11 @@ binder free bound x = record { name = x; var = record { 0 = length free + length
 
 -- left and right term, and then their difference at the place of the relation
 abbrev pub atom_value : ℕ → Relation → Value → Value → Result Formula Met
-atom_value p r left right = next left (λ a. next right (λ b. next (added p true a b) (λ d. Ok (Atom (record { poly = d; signs = signs_of r })))))
+atom_value p r left right = proceed left (λ a. proceed right (λ b. proceed (added p true a b) (λ d. Ok (Atom (record { poly = d; signs = relation_signs r })))))
 
 -- both, one after the other
 abbrev pub pair_value : (Formula → Formula → Formula) → Result Formula Met → Result Formula Met → Result Formula Met
-pair_value join left right = next left (λ f. next right (λ g. Ok (join f g)))
+pair_value join left right = proceed left (λ f. proceed right (λ g. Ok (join f g)))
 
 -- The formula of a tree, inside these binders; `bound` are the names that are bound before it in the text.
 -- A variable that is bound has the next number after the free names and these.
@@ -61,18 +61,18 @@ abbrev mutual
   formula text free enclosing bound syntax.True = Ok True
   formula text free enclosing bound syntax.False = Ok False
   formula text free enclosing bound (syntax.Atom t p r u) = atom_value p r (value (variable text free enclosing) t) (value (variable text free enclosing) u)
-  formula text free enclosing bound (syntax.And fs) = next (formulas text free enclosing bound fs) (λ gs. Ok (And gs))
-  formula text free enclosing bound (syntax.Or fs) = next (formulas text free enclosing bound fs) (λ gs. Ok (Or gs))
-  formula text free enclosing bound (syntax.Not f) = next (formula text free enclosing bound f) (λ g. Ok (Not g))
+  formula text free enclosing bound (syntax.And fs) = proceed (formulas text free enclosing bound fs) (λ gs. Ok (And gs))
+  formula text free enclosing bound (syntax.Or fs) = proceed (formulas text free enclosing bound fs) (λ gs. Ok (Or gs))
+  formula text free enclosing bound (syntax.Not f) = proceed (formula text free enclosing bound f) (λ g. Ok (Not g))
   formula text free enclosing bound (syntax.Implies f g) = pair_value Implies (formula text free enclosing bound f) (formula text free enclosing (bound ++ bound_names f) g)
   formula text free enclosing bound (syntax.Iff f g) = pair_value Iff (formula text free enclosing bound f) (formula text free enclosing (bound ++ bound_names f) g)
-  formula text free enclosing bound (syntax.Ex x f) = next (formula text free (enclosing ++ binder free bound x ∷ []) (bound ++ x ∷ []) f) (λ g. Ok (Ex (binder free bound x).var.0 g))
-  formula text free enclosing bound (syntax.All x f) = next (formula text free (enclosing ++ binder free bound x ∷ []) (bound ++ x ∷ []) f) (λ g. Ok (All (binder free bound x).var.0 g))
+  formula text free enclosing bound (syntax.Ex x f) = proceed (formula text free (enclosing ++ binder free bound x ∷ []) (bound ++ x ∷ []) f) (λ g. Ok (Ex (binder free bound x).var.0 g))
+  formula text free enclosing bound (syntax.All x f) = proceed (formula text free (enclosing ++ binder free bound x ∷ []) (bound ++ x ∷ []) f) (λ g. Ok (All (binder free bound x).var.0 g))
 
   pub formulas : List ℕ → List Letters → List Binder → List Name → FormulaTrees → Result Formulas Met
   formulas text free enclosing bound syntax.no_more = Ok no_more
   formulas text free enclosing bound (syntax.more f fs) =
-      next (formula text free enclosing bound f) (λ g. next (formulas text free enclosing (bound ++ bound_names f) fs) (λ gs. Ok (more g gs)))
+      proceed (formula text free enclosing bound f) (λ g. proceed (formulas text free enclosing (bound ++ bound_names f) fs) (λ gs. Ok (more g gs)))
 
 -- the formula, or why there is none; want of memory may come in place of either
 abbrev pub IsForm : Result Formula Met → Result code.Form ValueStop → Type 0

@@ -21,9 +21,9 @@ abbrev pub letters_cmp : Letters → Letters → Ordering
 letters_cmp = slice_cmp nat_cmp
 
 -- how many of the names come before w
-abbrev pub rank : List Letters → Letters → ℕ
-rank [] w = 0
-rank (v ∷ vs) w = cond (is_lt (letters_cmp v w)) (suc (rank vs w)) (rank vs w)
+abbrev pub names_before : List Letters → Letters → ℕ
+names_before [] w = 0
+names_before (v ∷ vs) w = cond (is_lt (letters_cmp v w)) (suc (names_before vs w)) (names_before vs w)
 
 -- the same bytes
 abbrev pub is_same : Letters → Letters → Bool
@@ -37,7 +37,7 @@ bound_to text (b ∷ bs) w = option_or (bound_to text bs w) (cond (is_same (lett
 -- what was found, or else the variable of a free name
 abbrev pub or_free : List Letters → Letters → Option Var → Var
 or_free free w (Some x) = x
-or_free free w None = record { 0 = rank free w }
+or_free free w None = record { 0 = names_before free w }
 
 -- The variable of a name, where these are the binders around it from the outermost to the innermost:
 -- that of the innermost binder with its letters, and else the one whose number is how many free names come before it.

@@ -16,9 +16,9 @@ abbrev pub Value : Type 0
 Value = Result Polynomial Met
 
 -- what follows where there is a result; the first limit stays
-abbrev pub next : {A B : Type 0} → Result A Met → (A → Result B Met) → Result B Met
-next (Ok a) f = f a
-next (Err met) f = Err met
+abbrev pub proceed : {A B : Type 0} → Result A Met → (A → Result B Met) → Result B Met
+proceed (Ok a) f = f a
+proceed (Err met) f = Err met
 
 -- the operation at a place, which may meet a limit
 abbrev pub at : ℕ → Option PolyLimit → Polynomial → Value
@@ -35,7 +35,7 @@ multiplied p a b = at p (product_limit a b) (product a b)
 -- b times a, n times over
 abbrev pub repeated : ℕ → Polynomial → ℕ → Polynomial → Value
 repeated p a zero b = Ok b
-repeated p a (suc n) b = next (multiplied p b a) (repeated p a n)
+repeated p a (suc n) b = proceed (multiplied p b a) (repeated p a n)
 
 -- a to the n: 1, or a multiplied by itself n - 1 times
 abbrev pub raised : ℕ → ℕ → Polynomial → Value
@@ -45,11 +45,11 @@ raised p (suc n) a = repeated p a n a
 -- a name's power is that monomial, and any other base is computed and multiplied
 abbrev pub power_value : (Name → Var) → Option Name → Value → ℕ → ℕ → Value
 power_value var (Some x) base p n = Ok (power_of (var x) n)
-power_value var None base p n = next base (raised p n)
+power_value var None base p n = proceed base (raised p n)
 
-abbrev pub name_of : TermTree → Option Name
-name_of (Variable x) = Some x
-name_of t = None
+abbrev pub as_name : TermTree → Option Name
+as_name (Variable x) = Some x
+as_name t = None
 
 -- a number of a text, which has none above 2^127-1
 abbrev pub literal : ℕ → ℕ
@@ -60,20 +60,20 @@ abbrev mutual
   pub value : (Name → Var) → TermTree → Value
   value var (Number n) = Ok (constant (pos (literal n)))
   value var (Variable x) = Ok (power_of (var x) 1)
-  value var (Negative t) = next (value var t) (λ a. Ok (negative a))
-  value var (Power t p n) = power_value var (name_of t) (value var t) p n
-  value var (Sum t us) = next (value var t) (summed var us)
-  value var (Product t us) = next (value var t) (factored var us)
+  value var (Negative t) = proceed (value var t) (λ a. Ok (negative a))
+  value var (Power t p n) = power_value var (as_name t) (value var t) p n
+  value var (Sum t us) = proceed (value var t) (summed var us)
+  value var (Product t us) = proceed (value var t) (factored var us)
 
   -- with the later summands
   pub summed : (Name → Var) → Addends → Polynomial → Value
   summed var no_addend a = Ok a
-  summed var (addend p minus t us) a = next (value var t) (λ b. next (added p minus a b) (summed var us))
+  summed var (addend p minus t us) a = proceed (value var t) (λ b. proceed (added p minus a b) (summed var us))
 
   -- with the later factors
   pub factored : (Name → Var) → Factors → Polynomial → Value
   factored var no_factor a = Ok a
-  factored var (factor p t us) a = next (value var t) (λ b. next (multiplied p a b) (factored var us))
+  factored var (factor p t us) a = proceed (value var t) (λ b. proceed (multiplied p a b) (factored var us))
 
 -- the stop is what was met first, or want of memory
 abbrev pub Stops : {A : Type 0} → Result A Met → ValueStop → Type 0

@@ -3,10 +3,10 @@
 ghost use Rattle.std.specs.Prelude.{◌≡◌, ◌+◌, ◌<◌, ◌^◌, ◌++◌, ◌∷◌, [], length, map, Ok, IfOk, OnOk};
 ghost use Rattle.qe_form.specs.Formula.{Formula as FormTree, And, Or};
 ghost use Rattle.qe_form.specs.Tree.{tree, trees};
-ghost use Rattle.qe_syntax.specs.Code.{term_of, formula_of, trees_of};
+ghost use Rattle.qe_syntax.specs.Code.{term_of, tree_of, as_parts};
 ghost use Rattle.qe_read.specs.Names.{variable};
 ghost use Rattle.qe_read.specs.Value.{value as value_of, Stops};
-ghost use Rattle.qe_read.specs.Formula.{signs_of, atom_value, bound_names, names_bound_in, formula as formula_value, formulas as formula_values, IsForm, AreForms};
+ghost use Rattle.qe_read.specs.Formula.{relation_signs, atom_value, bound_names, names_bound_in, formula as formula_value, formulas as formula_values, IsForm, AreForms};
 
 use crate::scope::{Binder, Context};
 use crate::value::{ValueStop, add, value};
@@ -16,8 +16,8 @@ use qe_syntax::{Comparison, Formula, Name, Relation};
 use std::alloc::Global;
 
 /// The signs that the left term less the right one may have.
-fn signs_of(relation: Relation) -> Signs
-    ensures { result ≡ signs_of relation }
+fn relation_signs(relation: Relation) -> Signs
+    ensures { result ≡ relation_signs relation }
 {
     match relation {
         Relation::Equal => Signs::of(false, true, false),
@@ -43,7 +43,7 @@ fn read_atom(
     let right = value(alloc, context, enclosing, &comparison.right)?;
     Ok(Form::Atom(Atom {
         poly: add(alloc, comparison.place, true, &left, &right)?,
-        signs: signs_of(comparison.relation),
+        signs: relation_signs(comparison.relation),
     }))
 }
 
@@ -65,10 +65,10 @@ pub fn read_formula(
     bound: &mut Vec<Name>,
     formula: &Formula,
 ) -> Result<Form, ValueStop>
-    requires { length context.now.free.now + length bound.old.items + length (bound_names (formula_of formula.now)) < 2 ^ 32 }
-    ensures form { IsForm (formula_value context.now.text.now context.now.free.now enclosing.old.items bound.old.items (formula_of formula.now)) result }
+    requires { length context.now.free.now + length bound.old.items + length (bound_names (tree_of formula.now)) < 2 ^ 32 }
+    ensures form { IsForm (formula_value context.now.text.now context.now.free.now enclosing.old.items bound.old.items (tree_of formula.now)) result }
     ensures enclosing { OnOk result (enclosing.new.items ≡ enclosing.old.items) }
-    ensures bound { OnOk result (bound.new.items ≡ bound.old.items ++ bound_names (formula_of formula.now)) }
+    ensures bound { OnOk result (bound.new.items ≡ bound.old.items ++ bound_names (tree_of formula.now)) }
 {
     match formula {
         Formula::True => Ok(Form::True),
@@ -139,10 +139,10 @@ fn read_body(
     binder: Binder,
     body: &Formula,
 ) -> Result<Form, ValueStop>
-    requires { length context.now.free.now + length bound.old.items + 1 + length (bound_names (formula_of body.now)) < 2 ^ 32 }
-    ensures form { IsForm (formula_value context.now.text.now context.now.free.now (enclosing.old.items ++ binder ∷ []) (bound.old.items ++ binder.name ∷ []) (formula_of body.now)) result }
+    requires { length context.now.free.now + length bound.old.items + 1 + length (bound_names (tree_of body.now)) < 2 ^ 32 }
+    ensures form { IsForm (formula_value context.now.text.now context.now.free.now (enclosing.old.items ++ binder ∷ []) (bound.old.items ++ binder.name ∷ []) (tree_of body.now)) result }
     ensures enclosing { OnOk result (enclosing.new.items ≡ enclosing.old.items) }
-    ensures bound { OnOk result (bound.new.items ≡ bound.old.items ++ binder.name ∷ bound_names (formula_of body.now)) }
+    ensures bound { OnOk result (bound.new.items ≡ bound.old.items ++ binder.name ∷ bound_names (tree_of body.now)) }
 {
     enclosing.push(binder)?;
     bound.push(binder.name)?;
@@ -160,10 +160,10 @@ fn read_formulas(
     bound: &mut Vec<Name>,
     formulas: &[Formula],
 ) -> Result<Forms, ValueStop>
-    requires { length context.now.free.now + length bound.old.items + length (names_bound_in (trees_of (map formula_of formulas.now))) < 2 ^ 32 }
-    ensures form { AreForms (formula_values context.now.text.now context.now.free.now enclosing.old.items bound.old.items (trees_of (map formula_of formulas.now))) result }
+    requires { length context.now.free.now + length bound.old.items + length (names_bound_in (as_parts (map tree_of formulas.now))) < 2 ^ 32 }
+    ensures form { AreForms (formula_values context.now.text.now context.now.free.now enclosing.old.items bound.old.items (as_parts (map tree_of formulas.now))) result }
     ensures enclosing { OnOk result (enclosing.new.items ≡ enclosing.old.items) }
-    ensures bound { OnOk result (bound.new.items ≡ bound.old.items ++ names_bound_in (trees_of (map formula_of formulas.now))) }
+    ensures bound { OnOk result (bound.new.items ≡ bound.old.items ++ names_bound_in (as_parts (map tree_of formulas.now))) }
 {
     let mut forms = Sequence::new(alloc);
     for formula in formulas {

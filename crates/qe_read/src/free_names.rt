@@ -1,7 +1,7 @@
 //! The numbers of the free names.
 
 ghost use Rattle.std.specs.Prelude.{◌≡◌, ◌<◌, ◌≤◌, ◌^◌, length, map, IfOk};
-ghost use Rattle.qe_read.specs.Names.{rank};
+ghost use Rattle.qe_read.specs.Names.{names_before};
 ghost use Rattle.qe_read.specs.FreeNames.{AreLettersOf};
 
 use crate::OutOfMemory;
@@ -62,7 +62,7 @@ impl<'a> FreeNames<'a> {
 
     /// The variable of a free name: its number is how many free names come before it.
     pub fn variable(&self, letters: &[u8]) -> Var
-        ensures { result.0 ≡ rank self.now letters.now }
+        ensures { result.0 ≡ names_before self.now letters.now }
     {
         match self.names.binary_search(&letters) {
             Ok(place) | Err(place) => Var(place as u32),

@@ -1,7 +1,7 @@
 //! The names that are free in a text, at each place where they occur.
 
 ghost use Rattle.std.specs.Prelude.{◌≡◌, ◌++◌, ◌∷◌, [], map, OnOk};
-ghost use Rattle.qe_syntax.specs.Code.{term_of, addend_of, addends_of, factor_of, factors_of, formula_of, trees_of};
+ghost use Rattle.qe_syntax.specs.Code.{term_of, addend_of, addends_of, factor_of, factors_of, tree_of, as_parts};
 ghost use Rattle.qe_read.specs.FreeNames.{is_bound, free_in, free_in_addends, free_in_factors, free_names, free_names_each};
 
 use crate::OutOfMemory;
@@ -86,7 +86,7 @@ pub fn push_free(
     around: &mut Vec<Name>,
     formula: &Formula,
 ) -> Result<(), OutOfMemory>
-    ensures names { OnOk result (names.new.items ≡ names.old.items ++ free_names text.now around.old.items (formula_of formula.now)) }
+    ensures names { OnOk result (names.new.items ≡ names.old.items ++ free_names text.now around.old.items (tree_of formula.now)) }
     ensures around { OnOk result (around.new.items ≡ around.old.items) }
 {
     match formula {
@@ -119,7 +119,7 @@ fn push_free_each(
     around: &mut Vec<Name>,
     formulas: &[Formula],
 ) -> Result<(), OutOfMemory>
-    ensures names { OnOk result (names.new.items ≡ names.old.items ++ free_names_each text.now around.old.items (trees_of (map formula_of formulas.now))) }
+    ensures names { OnOk result (names.new.items ≡ names.old.items ++ free_names_each text.now around.old.items (as_parts (map tree_of formulas.now))) }
     ensures around { OnOk result (around.new.items ≡ around.old.items) }
 {
     for formula in formulas {

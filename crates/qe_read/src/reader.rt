@@ -6,7 +6,7 @@ ghost use Rattle.std.specs.Str.{IsUtf8};
 ghost use Rattle.std.specs.String.{string_bytes};
 ghost use Rattle.qe_form.specs.Formula.{Formula as FormTree};
 ghost use Rattle.qe_form.specs.Tree.{tree};
-ghost use Rattle.qe_syntax.specs.Code.{formula_of};
+ghost use Rattle.qe_syntax.specs.Code.{tree_of};
 ghost use Rattle.qe_read.specs.Names.{Letters, letters as letters_of};
 ghost use Rattle.qe_read.specs.FreeNames.{free_names};
 ghost use Rattle.qe_read.specs.Formula.{bound_names};
@@ -55,11 +55,11 @@ fn names_of(alloc: Global, context: &Context, bound: &[Name]) -> Result<Names, O
 
 /// The formula of a tree with its names, or the first limit that an operation meets.
 fn read_tree(alloc: Global, bytes: &[u8], formula: &Formula) -> Result<Input, ReadFault>
-    requires few { length (free_names bytes.now [] (formula_of formula.now)) + length (bound_names (formula_of formula.now)) < 2 ^ 32 }
-    requires free { All (λ x. IsUtf8 (letters_of bytes.now x)) (free_names bytes.now [] (formula_of formula.now)) }
-    requires bound { All (λ x. IsUtf8 (letters_of bytes.now x)) (bound_names (formula_of formula.now)) }
-    ensures answers { AnswersTree bytes.now (formula_of formula.now) result }
-    ensures few { IfOk result (λ input. length input.names ≤ length (free_names bytes.now [] (formula_of formula.now)) + length (bound_names (formula_of formula.now))) }
+    requires few { length (free_names bytes.now [] (tree_of formula.now)) + length (bound_names (tree_of formula.now)) < 2 ^ 32 }
+    requires free { All (λ x. IsUtf8 (letters_of bytes.now x)) (free_names bytes.now [] (tree_of formula.now)) }
+    requires bound { All (λ x. IsUtf8 (letters_of bytes.now x)) (bound_names (tree_of formula.now)) }
+    ensures answers { AnswersTree bytes.now (tree_of formula.now) result }
+    ensures few { IfOk result (λ input. length input.names ≤ length (free_names bytes.now [] (tree_of formula.now)) + length (bound_names (tree_of formula.now))) }
 {
     let mut occurrences = Vec::new(alloc);
     push_free(&mut occurrences, bytes, &mut Vec::new(alloc), formula)?;

@@ -6,7 +6,7 @@ ghost use Rattle.qe_poly.specs.Limits.{IsAnswer};
 ghost use Rattle.qe_poly.specs.Polynomial.{Polynomial};
 ghost use Rattle.qe_syntax.specs.Code.{term_of, addend_of, addends_of, factor_of, factors_of};
 ghost use Rattle.qe_read.specs.Names.{variable as variable_of};
-ghost use Rattle.qe_read.specs.Value.{IsValue, Stops, at, added, multiplied, raised, literal, name_of, value as value_of, summed, factored};
+ghost use Rattle.qe_read.specs.Value.{IsValue, Stops, at, added, multiplied, raised, literal, as_name, value as value_of, summed, factored};
 
 use crate::free_names::FreeNames;
 use crate::scope::{Binder, Context};
@@ -112,8 +112,8 @@ fn raise(alloc: Global, place: u32, base: &Poly, exponent: u16) -> Result<Poly, 
 }
 
 /// The name that a term is.
-fn name_of(term: &Term) -> Option<Name>
-    ensures { result ≡ name_of (term_of term.now) }
+fn as_name(term: &Term) -> Option<Name>
+    ensures { result ≡ as_name (term_of term.now) }
 {
     match term {
         Term::Name(name) => Some(*name),
@@ -135,7 +135,7 @@ pub fn value(
         Term::Number(number) => Ok(Poly::constant(alloc, literal(*number))?),
         Term::Name(name) => Ok(Poly::power(alloc, context.variable(enclosing, *name), 1)?),
         Term::Negative(inner) => Ok(value(alloc, context, enclosing, inner)?.neg(alloc)?),
-        Term::Power(base, place, exponent) => match name_of(base) {
+        Term::Power(base, place, exponent) => match as_name(base) {
             Some(name) => Ok(Poly::power(
                 alloc,
                 context.variable(enclosing, name),

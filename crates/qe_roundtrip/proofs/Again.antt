@@ -5,7 +5,7 @@ use Rattle.std.proofs.lemmas.List.{get_or_default}
 use Rattle.qe_token.specs.declared.token.Name.{Name}
 use Rattle.qe_syntax.specs.Tree.{FormulaTree}
 use Rattle.qe_syntax.specs.Grammar as grammar
-use Rattle.qe_syntax.specs.Grammar.{Mark, the_end, input, formula_tree}
+use Rattle.qe_syntax.specs.Grammar.{Occurrence, the_end, input, formula_tree}
 use Rattle.qe_syntax.specs.Faults.{counted, HasNoFault}
 use Rattle.qe_syntax.specs.Reading.{IsClean}
 use Rattle.qe_syntax.proofs.First.{no_fault_of}

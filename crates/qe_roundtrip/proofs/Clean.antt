@@ -6,10 +6,10 @@ use Rattle.qe_token.specs.declared.token.Located.{Located}
 use Rattle.qe_syntax.specs.declared.fault.TextFault.{TextFault}
 use Rattle.qe_syntax.specs.declared.fault.TextFault.TheVariants.{Wide, Exponent, TooDeep, TooMany}
 use Rattle.qe_syntax.specs.Tree.{FormulaTree}
-use Rattle.qe_syntax.specs.Grammar.{Mark, input, texts}
-use Rattle.qe_syntax.specs.Faults.{is_wide, is_high, is_deep, value_fault, counted, bare, head, IsText}
+use Rattle.qe_syntax.specs.Grammar.{Occurrence, input, tokens_of}
+use Rattle.qe_syntax.specs.Faults.{is_wide, is_high_exponent, is_deep, passed_limit, counted, bare_tokens, head, IsText}
 use Rattle.qe_syntax.specs.Reading.{IsClean}
-use Rattle.qe_syntax.proofs.Spelling.{texts-append}
+use Rattle.qe_syntax.proofs.Spelling.{tokens_of-append}
 use Rattle.qe_syntax.proofs.Within.{counted-append}
 use Rattle.qe_syntax.proofs.First.{HasMark}
 use Rattle.qe_syntax.proofs.Small.{cut}
@@ -52,16 +52,16 @@ refused false false false false w x y z = refl
 -- ---- the marks of a text without a fault
 
 module _ (tokens : List Located) (of : FormulaTree) (t : IsText tokens of) where
-  push : (ms rest : List Mark) (m : Mark) → (ms ++ m ∷ []) ++ rest ≡ ms ++ m ∷ rest
+  push : (ms rest : List Occurrence) (m : Occurrence) → (ms ++ m ∷ []) ++ rest ≡ ms ++ m ∷ rest
   push [] rest m = refl
-  push (x ∷ ms) rest m = ap (λ (y : List Mark). x ∷ y) (push ms rest m)
+  push (x ∷ ms) rest m = ap (λ (y : List Occurrence). x ∷ y) (push ms rest m)
 
-  clean_rest : (ms rest : List Mark) → input t.derived ≡ ms ++ rest → IsClean (counted 0 ms) rest
+  clean_rest : (ms rest : List Occurrence) → input t.derived ≡ ms ++ rest → IsClean (counted 0 ms) rest
   clean_rest ms [] e = tt
   clean_rest ms (m ∷ rest) e =
-      let c = cut tokens (texts ms) m.token (texts rest) (sym t.spelled ∙ ap texts e ∙ texts-append ms (m ∷ rest)) in
-      let mark : (g : TextFault) → value_fault (counted 0 ms) m ≡ Some g → HasMark (bare c.before) (head c.after) g = λ g v. (t.derived, ms, m, rest, e, sym c.before_are, sym c.next_is, v) in (
-        refused (is_wide m.token m.role) (is_high m.token m.role) (is_deep m.opens) (is_full m.begins (counted 0 ms))
+      let c = cut tokens (tokens_of ms) m.token (tokens_of rest) (sym t.spelled ∙ ap tokens_of e ∙ tokens_of-append ms (m ∷ rest)) in
+      let mark : (g : TextFault) → passed_limit (counted 0 ms) m ≡ Some g → HasMark (bare_tokens c.before) (head c.after) g = λ g v. (t.derived, ms, m, rest, e, sym c.before_are, sym c.next_is, v) in (
+        refused (is_wide m.token m.role) (is_high_exponent m.token m.role) (is_deep m.opens) (is_full m.begins (counted 0 ms))
             (λ v. t.no_fault c.before c.after Wide c.stands (mark Wide v)) (λ v. t.no_fault c.before c.after Exponent c.stands (mark Exponent v))
             (λ v. t.no_fault c.before c.after TooDeep c.stands (mark TooDeep v)) (λ v. t.no_fault c.before c.after TooMany c.stands (mark TooMany v)),
         subst (λ n. IsClean n rest) (counted-append 0 ms (m ∷ [])) (clean_rest (ms ++ m ∷ []) rest (e ∙ sym (push ms rest m))),
@@ -70,20 +70,20 @@ module _ (tokens : List Located) (of : FormulaTree) (t : IsText tokens of) where
   pub clean_text : IsClean 0 (input t.derived)
   clean_text = clean_rest [] (input t.derived) refl
 
-pub clean_fits : (begun : ℕ) (ms : List Mark) → IsClean begun ms → AllFit ms
+pub clean_fits : (begun : ℕ) (ms : List Occurrence) → IsClean begun ms → AllFit ms
 clean_fits begun [] h = tt
 clean_fits begun (m ∷ ms) h =
-    let n = none_of (is_wide m.token m.role) (is_high m.token m.role) (is_deep m.opens) (is_full m.begins begun) h.0 in
+    let n = none_of (is_wide m.token m.role) (is_high_exponent m.token m.role) (is_deep m.opens) (is_full m.begins begun) h.0 in
     ((n.wide, n.high), clean_fits (counted begun (m ∷ [])) ms h.1)
 
 not_full : (b : Bool) (k : ℕ) → is_full b k ≡ false → k ≤ 65536 → one_if b k ≤ 65536
 not_full true k h l = let f : k < 65536 = grind (arith, nat_tests) in omega arith
 not_full false k h l = l
 
-pub clean_most : (begun : ℕ) (ms : List Mark) → IsClean begun ms → begun ≤ 65536 → counted begun ms ≤ 65536
+pub clean_most : (begun : ℕ) (ms : List Occurrence) → IsClean begun ms → begun ≤ 65536 → counted begun ms ≤ 65536
 clean_most begun [] h l = l
 clean_most begun (m ∷ ms) h l =
-    let n = none_of (is_wide m.token m.role) (is_high m.token m.role) (is_deep m.opens) (is_full m.begins begun) h.0 in
+    let n = none_of (is_wide m.token m.role) (is_high_exponent m.token m.role) (is_deep m.opens) (is_full m.begins begun) h.0 in
     clean_most (one_if m.begins begun) ms h.1 (not_full m.begins begun n.many l)
 
 -- ---- the marks of a text that is to have none
@@ -92,7 +92,7 @@ grown : (b : Bool) (k : ℕ) → k ≤ one_if b k
 grown true k = omega arith
 grown false k = omega arith
 
-counts_up : (begun : ℕ) (ms : List Mark) → begun ≤ counted begun ms
+counts_up : (begun : ℕ) (ms : List Occurrence) → begun ≤ counted begun ms
 counts_up begun [] = omega arith
 counts_up begun (m ∷ ms) = omega (arith, grown m.begins begun, counts_up (one_if m.begins begun) ms)
 
@@ -100,10 +100,10 @@ room : (b : Bool) (k : ℕ) → one_if b k ≤ 65536 → is_full b k ≡ false
 room true k l = let f : k < 65536 = omega arith in grind (arith, nat_tests)
 room false k l = refl
 
-pub clean_from : (begun : ℕ) (ms : List Mark) → AllFit ms → AreShallow ms → counted begun ms ≤ 65536 → IsClean begun ms
+pub clean_from : (begun : ℕ) (ms : List Occurrence) → AllFit ms → AreShallow ms → counted begun ms ≤ 65536 → IsClean begun ms
 clean_from begun [] f s l = tt
 clean_from begun (m ∷ ms) f s l =
     let most : one_if m.begins begun ≤ 65536 = omega (arith, counts_up (one_if m.begins begun) ms, l) in (
-      of_none (is_wide m.token m.role) (is_high m.token m.role) (is_deep m.opens) (is_full m.begins begun) f.0.0 f.0.1 s.0 (room m.begins begun most),
+      of_none (is_wide m.token m.role) (is_high_exponent m.token m.role) (is_deep m.opens) (is_full m.begins begun) f.0.0 f.0.1 s.0 (room m.begins begun most),
       clean_from (one_if m.begins begun) ms f.1 s.1 l,
     )

@@ -12,7 +12,7 @@ use Rattle.qe_form.specs.Fed.{size}
 use Rattle.qe_form.specs.Signs.{bits}
 use Rattle.qe_form.specs.Formula.{Formula, Formulas, True, False, Atom, And, Or, Not, Implies, Iff, Ex, All, no_more, more}
 use Rattle.qe_print.specs.Polynomial.{name_of, polynomial_text}
-use Rattle.qe_print.specs.Formula.{relation_text, atom_text, bracketed, part, formula_text, parts_text}
+use Rattle.qe_print.specs.Formula.{relation_to_zero, atom_text, bracketed, part, formula_text, parts_text}
 use Rattle.qe_syntax.specs.Tree as tree
 use Rattle.qe_syntax.specs.Tree.{FormulaTree, FormulaTrees}
 use Rattle.qe_syntax.specs.Grammar.{term_tree, atom_tree, formula_tree, ands_trees, ors_trees, unary_tree, conjoined, disjoined}
@@ -20,8 +20,8 @@ use Rattle.qe_read.specs.declared.scope.Binder.{Binder}
 use Rattle.qe_read.specs.Names.{Letters, letters, or_free, variable}
 use Rattle.qe_read.specs.FreeNames.{free_in, free_names, free_names_each}
 use Rattle.qe_read.specs.Numbered.{binders, binders_each}
-use Rattle.qe_read.specs.Value.{next, at, added}
-use Rattle.qe_read.specs.Formula.{signs_of, bound_names, names_bound_in, binder, pair_value, formula, formulas}
+use Rattle.qe_read.specs.Value.{proceed, at, added}
+use Rattle.qe_read.specs.Formula.{relation_signs, bound_names, names_bound_in, binder, pair_value, formula, formulas}
 use Rattle.qe_read.proofs.Variables.{Have}
 use Rattle.qe_read.proofs.Numbers.{names_of, names_of-push}
 use Rattle.qe_roundtrip.proofs.Derived.{name_at, poly_at, relation_of, atom_at, part_at, formula_at, ands_at, ors_at}
@@ -33,7 +33,7 @@ use Rattle.qe_roundtrip.proofs.PolynomialNames.{in_polynomial}
 use Rattle.qe_roundtrip.proofs.Loose.{outside, loose, loose_each, scope_of, variable_in, scope_of-push, free_in-is}
 use Rattle.qe_roundtrip.proofs.FormulaTokens.{is_more, related}
 
-relation_back : (r : Relation) → signs_of (relation_of (bits (signs_of r))) ≡ signs_of r
+relation_back : (r : Relation) → relation_signs (relation_of (bits (relation_signs r))) ≡ relation_signs r
 relation_back relation.Equal = refl
 relation_back relation.NotEqual = refl
 relation_back relation.Less = refl
@@ -55,13 +55,13 @@ module _ (names free : List Letters) (whole : List ℕ) where
 
   module _ (bs : List Binder) (bound : List Name) where
     stands_not : (f : Formula) (t : FormulaTree) → Stands bs bound f t → Stands bs bound (Not f) (tree.Not t)
-    stands_not f t h = record { is = ap (λ v. next v (λ g. Ok (Not g))) h.is; bound_are = h.bound_are; free_are = h.free_are }
+    stands_not f t h = record { is = ap (λ v. proceed v (λ g. Ok (Not g))) h.is; bound_are = h.bound_are; free_are = h.free_are }
 
     stands_and : (fs : Formulas) (ts : FormulaTrees) → StandEach bs bound fs ts → Stands bs bound (And fs) (tree.And ts)
-    stands_and fs ts h = record { is = ap (λ v. next v (λ gs. Ok (And gs))) h.is; bound_are = h.bound_are; free_are = h.free_are }
+    stands_and fs ts h = record { is = ap (λ v. proceed v (λ gs. Ok (And gs))) h.is; bound_are = h.bound_are; free_are = h.free_are }
 
     stands_or : (fs : Formulas) (ts : FormulaTrees) → StandEach bs bound fs ts → Stands bs bound (Or fs) (tree.Or ts)
-    stands_or fs ts h = record { is = ap (λ v. next v (λ gs. Ok (Or gs))) h.is; bound_are = h.bound_are; free_are = h.free_are }
+    stands_or fs ts h = record { is = ap (λ v. proceed v (λ gs. Ok (Or gs))) h.is; bound_are = h.bound_are; free_are = h.free_are }
 
     joined : (xs ys : List Name) (vs ws : List Letters) → map (letters whole) xs ≡ vs → map (letters whole) ys ≡ ws → map (letters whole) (xs ++ ys) ≡ vs ++ ws
     joined xs ys vs ws h k = map-append (letters whole) xs ys ∙ (λ i. h i ++ k i)
@@ -85,7 +85,7 @@ module _ (names free : List Letters) (whole : List ℕ) where
 
     stand_more : (f : Formula) (fs : Formulas) (t : FormulaTree) (ts : FormulaTrees) → Stands bs bound f t → StandEach bs (bound ++ bound_names t) fs ts → StandEach bs bound (more f fs) (tree.more t ts)
     stand_more f fs t ts h k = record {
-      is = (λ i. next (h.is i) (λ g. next (k.is i) (λ gs. Ok (more g gs))));
+      is = (λ i. proceed (h.is i) (λ g. proceed (k.is i) (λ gs. Ok (more g gs))));
       bound_are = bound_both (bound_names t) (names_bound_in ts) (binders f) (binders_each fs) h.bound_are k.bound_are;
       free_are = joined (free_names whole (names_of bs) t) (free_names_each whole (names_of bs) ts) _ _ h.free_are k.free_are;
     }
@@ -103,7 +103,7 @@ module _ (names free : List Letters) (whole : List ℕ) where
     stands_ex : (x : ℕ) (nm : Name) (f : Formula) (t : FormulaTree) → x ≡ length free + length bound → letters whole nm ≡ name_of names x → Stands (bs ++ binder free bound nm ∷ []) (bound ++ nm ∷ []) f t
         → Stands bs bound (Ex x f) (tree.Ex nm t)
     stands_ex x nm f t n e h = record {
-      is = ap (λ v. next v (λ g. Ok (Ex (length free + length bound) g))) h.is ∙ ap (λ k. Ok (Ex k f)) (sym n);
+      is = ap (λ v. proceed v (λ g. Ok (Ex (length free + length bound) g))) h.is ∙ ap (λ k. Ok (Ex k f)) (sym n);
       bound_are = (λ i. e i ∷ h.bound_are i);
       free_are = free_inside x nm f t e h;
     }
@@ -111,7 +111,7 @@ module _ (names free : List Letters) (whole : List ℕ) where
     stands_all : (x : ℕ) (nm : Name) (f : Formula) (t : FormulaTree) → x ≡ length free + length bound → letters whole nm ≡ name_of names x → Stands (bs ++ binder free bound nm ∷ []) (bound ++ nm ∷ []) f t
         → Stands bs bound (All x f) (tree.All nm t)
     stands_all x nm f t n e h = record {
-      is = ap (λ v. next v (λ g. Ok (All (length free + length bound) g))) h.is ∙ ap (λ k. Ok (All k f)) (sym n);
+      is = ap (λ v. proceed v (λ g. Ok (All (length free + length bound) g))) h.is ∙ ap (λ k. Ok (All k f)) (sym n);
       bound_are = (λ i. e i ∷ h.bound_are i);
       free_are = free_inside x nm f t e h;
     }
@@ -130,16 +130,16 @@ module _ (names free : List Letters) (whole : List ℕ) where
           let r = more_taken d [] (subst (λ q. IsStored q) (sym (append-nil d)) h) in
           (λ i. at p (r.0 i) (r.1 i)) ∙ ap Ok (append-nil d)
 
-      stands_atom_by : (place : ℕ) (r : Relation) (p : Polynomial) → IsStored p → Have (IsKnown names free scope) p → At whole place (atom_text names (record { poly = p; signs = signs_of r }))
-          → Stands bs bound (Atom (record { poly = p; signs = signs_of r })) (atom_tree (atom_at names place (record { poly = p; signs = signs_of r })))
+      stands_atom_by : (place : ℕ) (r : Relation) (p : Polynomial) → IsStored p → Have (IsKnown names free scope) p → At whole place (atom_text names (record { poly = p; signs = relation_signs r }))
+          → Stands bs bound (Atom (record { poly = p; signs = relation_signs r })) (atom_tree (atom_at names place (record { poly = p; signs = relation_signs r })))
       stands_atom_by place r p h k s =
-          let here : At whole place (polynomial_text names p) = at_front whole place (polynomial_text names p) (relation_text (bits (signs_of r))) (subst (λ text. At whole place text) (related names free r p) s) in
+          let here : At whole place (polynomial_text names p) = at_front whole place (polynomial_text names p) (relation_to_zero (bits (relation_signs r))) (subst (λ text. At whole place text) (related names free r p) s) in
           let after = place + length (polynomial_text names p) + 1 in
           let left = term_tree (poly_at names place p) in
           record {
-            is = ap (λ v. next v (λ a. next (added after true a []) (λ d. Ok (Atom (record { poly = d; signs = signs_of (relation_of (bits (signs_of r))) })))))
+            is = ap (λ v. proceed v (λ a. proceed (added after true a []) (λ d. Ok (Atom (record { poly = d; signs = relation_signs (relation_of (bits (relation_signs r))) })))))
                 (poly_value names whole (variable whole free bs) (IsKnown names free scope) finds place p h k here)
-                ∙ ap (λ v. next v (λ d. Ok (Atom (record { poly = d; signs = signs_of (relation_of (bits (signs_of r))) })))) (no_right after p h)
+                ∙ ap (λ v. proceed v (λ d. Ok (Atom (record { poly = d; signs = relation_signs (relation_of (bits (relation_signs r))) })))) (no_right after p h)
                 ∙ ap (λ (z : Signs). Ok (Atom (record { poly = p; signs = z }))) (relation_back r);
             bound_are = refl;
             free_are = ap (map (letters whole)) (append-nil (free_in whole (names_of bs) left)) ∙ free_in-is whole (names_of bs) left ∙ ap (outside (map (letters whole) (names_of bs))) (in_polynomial names whole place p here);

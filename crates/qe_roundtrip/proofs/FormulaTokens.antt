@@ -16,12 +16,12 @@ use Rattle.qe_form.specs.Fed.{size}
 use Rattle.qe_form.specs.Signs.{bits}
 use Rattle.qe_form.specs.Formula.{Formula, Formulas, True, False, Atom, And, Or, Not, Implies, Iff, Ex, All, no_more, more}
 use Rattle.qe_print.specs.Polynomial.{name_of, polynomial_text}
-use Rattle.qe_print.specs.Formula.{relation_text, atom_text, bracketed, part, is_one, formula_text, parts_text}
-use Rattle.qe_read.specs.Formula.{signs_of}
+use Rattle.qe_print.specs.Formula.{relation_to_zero, atom_text, bracketed, part, is_single, formula_text, parts_text}
+use Rattle.qe_read.specs.Formula.{relation_signs}
 use Rattle.qe_read.specs.Numbered.{binders}
 use Rattle.qe_read.proofs.Variables.{Have, Has}
 use Rattle.qe_syntax.specs.Grammar as grammar
-use Rattle.qe_syntax.specs.Grammar.{Mark, plain, opener, word, figure, literal}
+use Rattle.qe_syntax.specs.Grammar.{Occurrence, plain, opener, word, figure, literal}
 use Rattle.qe_roundtrip.proofs.Pieces.{or_no, Parts, Open, Closed, opened, nothing, closed_open, open_closed, open_open, blank_token, one_token}
 use Rattle.qe_roundtrip.proofs.Numerals.{zero_opens, name_opens}
 use Rattle.qe_roundtrip.proofs.Derived.{name_at, poly_at, relation_of, atom_at, part_at, formula_at, ands_at, ors_at}
@@ -47,7 +47,7 @@ module _ (names free : List (List ℕ)) where
 
   -- ---- atoms
 
-  relation_opens : (place : ℕ) (r : Relation) → Open place (relation_text (bits (signs_of r))) (λ ms. plain (token.Relation (place + 1) (relation_of (bits (signs_of r)))) ∷ figure 0 literal false ∷ ms)
+  relation_opens : (place : ℕ) (r : Relation) → Open place (relation_to_zero (bits (relation_signs r))) (λ ms. plain (token.Relation (place + 1) (relation_of (bits (relation_signs r)))) ∷ figure 0 literal false ∷ ms)
   relation_opens place relation.Equal = closed_open place (codes " = ") (codes "0") (λ ms. plain (token.Relation (place + 1) relation.Equal) ∷ ms) (λ ms. figure 0 literal false ∷ ms)
       (blank_token place (codes " ") (codes "=") (codes " ") (plain (token.Relation (place + 1) relation.Equal)) (token.Relation (place + 1) relation.Equal) refl refl (λ rest. refl) refl (refl, refl) (refl, refl)) (zero_opens (place + 3) false)
   relation_opens place relation.NotEqual = closed_open place (codes " <> ") (codes "0") (λ ms. plain (token.Relation (place + 1) relation.NotEqual) ∷ ms) (λ ms. figure 0 literal false ∷ ms)
@@ -61,7 +61,7 @@ module _ (names free : List (List ℕ)) where
   relation_opens place relation.GreaterOrEqual = closed_open place (codes " >= ") (codes "0") (λ ms. plain (token.Relation (place + 1) relation.GreaterOrEqual) ∷ ms) (λ ms. figure 0 literal false ∷ ms)
       (blank_token place (codes " ") (codes ">=") (codes " ") (plain (token.Relation (place + 1) relation.GreaterOrEqual)) (token.Relation (place + 1) relation.GreaterOrEqual) refl refl (λ rest. refl) refl (refl, refl) (refl, refl)) (zero_opens (place + 4) false)
 
-  relation_parts : (r : Relation) (rest : List ℕ) → Parts (relation_text (bits (signs_of r)) ++ rest)
+  relation_parts : (r : Relation) (rest : List ℕ) → Parts (relation_to_zero (bits (relation_signs r)) ++ rest)
   relation_parts relation.Equal rest = refl
   relation_parts relation.NotEqual rest = refl
   relation_parts relation.Less rest = refl
@@ -70,7 +70,7 @@ module _ (names free : List (List ℕ)) where
   relation_parts relation.GreaterOrEqual rest = refl
 
   -- what is printed of an atom whose signs are those of a relation
-  pub related : (r : Relation) (p : Polynomial) → atom_text names (record { poly = p; signs = signs_of r }) ≡ polynomial_text names p ++ relation_text (bits (signs_of r))
+  pub related : (r : Relation) (p : Polynomial) → atom_text names (record { poly = p; signs = relation_signs r }) ≡ polynomial_text names p ++ relation_to_zero (bits (relation_signs r))
   related relation.Equal p = refl
   related relation.NotEqual p = refl
   related relation.Less p = refl
@@ -79,11 +79,11 @@ module _ (names free : List (List ℕ)) where
   related relation.GreaterOrEqual p = refl
 
   atom_by : (place depth : ℕ) (scope : Scope) (r : Relation) (p : Polynomial) → IsStored p → Have (IsKnown names free scope) p
-      → Open place (atom_text names (record { poly = p; signs = signs_of r })) (grammar.comparison depth (atom_at names place (record { poly = p; signs = signs_of r })))
+      → Open place (atom_text names (record { poly = p; signs = relation_signs r })) (grammar.comparison depth (atom_at names place (record { poly = p; signs = relation_signs r })))
   atom_by place depth scope r p h k =
-      subst (λ text. Open place text (grammar.comparison depth (atom_at names place (record { poly = p; signs = signs_of r })))) (sym (related r p))
-      (open_open place (polynomial_text names p) (relation_text (bits (signs_of r))) (grammar.term depth true (poly_at names place p))
-      (λ ms. plain (token.Relation (place + length (polynomial_text names p) + 1) (relation_of (bits (signs_of r)))) ∷ figure 0 literal false ∷ ms)
+      subst (λ text. Open place text (grammar.comparison depth (atom_at names place (record { poly = p; signs = relation_signs r })))) (sym (related r p))
+      (open_open place (polynomial_text names p) (relation_to_zero (bits (relation_signs r))) (grammar.term depth true (poly_at names place p))
+      (λ ms. plain (token.Relation (place + length (polynomial_text names p) + 1) (relation_of (bits (relation_signs r)))) ∷ figure 0 literal false ∷ ms)
       (poly_opens names place depth true p (terms_print scope p h.in_range h.low k)) (λ rest q. relation_parts r rest) (relation_opens (place + length (polynomial_text names p)) r))
 
   atom_opens : (place depth : ℕ) (scope : Scope) (a : atom.Atom) → IsAtom names free scope a → Open place (atom_text names a) (grammar.comparison depth (atom_at names place a))
@@ -156,7 +156,7 @@ module _ (names free : List (List ℕ)) where
 
   -- ---- formulas
 
-  pub is_more : (f : Formula) (fs : Formulas) → 1 < size (more f fs) → is_one (more f fs) ≡ false
+  pub is_more : (f : Formula) (fs : Formulas) → 1 < size (more f fs) → is_single (more f fs) ≡ false
   is_more f no_more h = absurd (omega arith)
   is_more f (more g gs) h = refl
 
@@ -190,21 +190,21 @@ module _ (names free : List (List ℕ)) where
         (not_closes place depth) (part_opens f (formula_opens f n scope h) (place + 4) (depth + 1))
     formula_opens (Implies f g) n scope h place depth =
         let behind = place + length (bracketed f (formula_text names f) ++ codes " implies ") in
-        let one : List Mark → List Mark = grammar.unary depth (part_at names place f (formula_at names (place + 1) f)) in
+        let one : List Occurrence → List Occurrence = grammar.unary depth (part_at names place f (formula_at names (place + 1) f)) in
         closed_open place (bracketed f (formula_text names f) ++ codes " implies ") (bracketed g (formula_text names g)) (λ ms. one (plain token.Implies ∷ ms)) (grammar.unary depth (part_at names behind g (formula_at names (behind + 1) g)))
         (open_closed place (bracketed f (formula_text names f)) (codes " implies ") one (λ ms. plain token.Implies ∷ ms)
         (part_opens f (formula_opens f n scope h.0) place depth) (λ rest. refl) (implies_closes (place + length (bracketed f (formula_text names f)))))
         (part_opens g (formula_opens g (n + length (binders f)) scope h.1) behind depth)
     formula_opens (Iff f g) n scope h place depth =
         let behind = place + length (bracketed f (formula_text names f) ++ codes " iff ") in
-        let one : List Mark → List Mark = grammar.unary depth (part_at names place f (formula_at names (place + 1) f)) in
+        let one : List Occurrence → List Occurrence = grammar.unary depth (part_at names place f (formula_at names (place + 1) f)) in
         closed_open place (bracketed f (formula_text names f) ++ codes " iff ") (bracketed g (formula_text names g)) (λ ms. one (plain token.Iff ∷ ms)) (grammar.unary depth (part_at names behind g (formula_at names (behind + 1) g)))
         (open_closed place (bracketed f (formula_text names f)) (codes " iff ") one (λ ms. plain token.Iff ∷ ms)
         (part_opens f (formula_opens f n scope h.0) place depth) (λ rest. refl) (iff_closes (place + length (bracketed f (formula_text names f)))))
         (part_opens g (formula_opens g (n + length (binders f)) scope h.1) behind depth)
     formula_opens (Ex x f) n scope h place depth =
         let behind = place + length (codes "ex " ++ name_of names x ++ codes ". ") in
-        let bound : List Mark → List Mark = λ ms. opener (token.Name (name_at names (place + 3) x)) depth true ∷ ms in
+        let bound : List Occurrence → List Occurrence = λ ms. opener (token.Name (name_at names (place + 3) x)) depth true ∷ ms in
         closed_open place (codes "ex " ++ name_of names x ++ codes ". ") (formula_text names f) (λ ms. plain token.Ex ∷ bound (plain token.Dot ∷ ms)) (grammar.formula (depth + 1) (formula_at names behind f))
         (open_closed place (codes "ex " ++ name_of names x) (codes ". ") (λ ms. plain token.Ex ∷ bound ms) (λ ms. plain token.Dot ∷ ms)
         (closed_open place (codes "ex ") (name_of names x) (λ ms. plain token.Ex ∷ ms) bound (ex_closes place) (name_opens (place + 3) (name_of names x) (Some depth) true h.1))
@@ -212,7 +212,7 @@ module _ (names free : List (List ℕ)) where
         (formula_opens f (suc n) (scope ++ (name_of names x, record { 0 = x }) ∷ []) h.2 behind (depth + 1))
     formula_opens (All x f) n scope h place depth =
         let behind = place + length (codes "all " ++ name_of names x ++ codes ". ") in
-        let bound : List Mark → List Mark = λ ms. opener (token.Name (name_at names (place + 4) x)) depth true ∷ ms in
+        let bound : List Occurrence → List Occurrence = λ ms. opener (token.Name (name_at names (place + 4) x)) depth true ∷ ms in
         closed_open place (codes "all " ++ name_of names x ++ codes ". ") (formula_text names f) (λ ms. plain token.All ∷ bound (plain token.Dot ∷ ms)) (grammar.formula (depth + 1) (formula_at names behind f))
         (open_closed place (codes "all " ++ name_of names x) (codes ". ") (λ ms. plain token.All ∷ bound ms) (λ ms. plain token.Dot ∷ ms)
         (closed_open place (codes "all ") (name_of names x) (λ ms. plain token.All ∷ ms) bound (all_closes place) (name_opens (place + 4) (name_of names x) (Some depth) true h.1))
@@ -222,7 +222,7 @@ module _ (names free : List (List ℕ)) where
     ands_open : (fs : Formulas) (n : ℕ) (scope : Scope) → AreLegible names free n scope fs → (place depth : ℕ) → Open place (parts_text names (codes " and ") false false fs) (grammar.andses depth (ands_at names place fs))
     ands_open no_more n scope h place depth = opened place [] (λ ms. ms) (nothing place)
     ands_open (more f fs) n scope h place depth =
-        let one : List Mark → List Mark = grammar.unary depth (part_at names (place + 5) f (formula_at names (place + 5 + 1) f)) in
+        let one : List Occurrence → List Occurrence = grammar.unary depth (part_at names (place + 5) f (formula_at names (place + 5 + 1) f)) in
         open_open place (codes " and " ++ bracketed f (formula_text names f)) (parts_text names (codes " and ") false false fs) (λ ms. plain token.And ∷ one ms)
         (grammar.andses depth (ands_at names (place + length (codes " and " ++ bracketed f (formula_text names f))) fs))
         (closed_open place (codes " and ") (bracketed f (formula_text names f)) (λ ms. plain token.And ∷ ms) one (and_closes place) (part_opens f (formula_opens f n scope h.0) (place + 5) depth))
@@ -231,7 +231,7 @@ module _ (names free : List (List ℕ)) where
     ors_open : (fs : Formulas) (n : ℕ) (scope : Scope) → AreLegible names free n scope fs → (place depth : ℕ) → Open place (parts_text names (codes " or ") false false fs) (grammar.orses depth (ors_at names place fs))
     ors_open no_more n scope h place depth = opened place [] (λ ms. ms) (nothing place)
     ors_open (more f fs) n scope h place depth =
-        let one : List Mark → List Mark = grammar.unary depth (part_at names (place + 4) f (formula_at names (place + 4 + 1) f)) in
+        let one : List Occurrence → List Occurrence = grammar.unary depth (part_at names (place + 4) f (formula_at names (place + 4 + 1) f)) in
         open_open place (codes " or " ++ bracketed f (formula_text names f)) (parts_text names (codes " or ") false false fs) (λ ms. plain token.Or ∷ one ms)
         (grammar.orses depth (ors_at names (place + length (codes " or " ++ bracketed f (formula_text names f))) fs))
         (closed_open place (codes " or ") (bracketed f (formula_text names f)) (λ ms. plain token.Or ∷ ms) one (or_closes place) (part_opens f (formula_opens f n scope h.0) (place + 4) depth))

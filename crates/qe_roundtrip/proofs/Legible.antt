@@ -13,7 +13,7 @@ use Rattle.qe_form.specs.Fed.{size}
 use Rattle.qe_form.specs.Formula.{Formula, Formulas, True, False, Atom, And, Or, Not, Implies, Iff, Ex, All, no_more, more}
 use Rattle.qe_read.specs.Names.{Letters, is_same, or_free}
 use Rattle.qe_read.specs.Numbered.{binders}
-use Rattle.qe_read.specs.Formula.{signs_of}
+use Rattle.qe_read.specs.Formula.{relation_signs}
 use Rattle.qe_read.proofs.Variables.{Have}
 use Rattle.qe_print.specs.Polynomial.{name_of}
 use Rattle.qe_roundtrip.proofs.Numerals.{IsName}
@@ -43,7 +43,7 @@ module _ (names free : List Letters) where
 
   pub record IsAtom (scope : Scope) (a : atom.Atom) : Type 0 where
     pub relation : Relation
-    pub signs : a.signs ≡ signs_of relation
+    pub signs : a.signs ≡ relation_signs relation
     pub stored : IsStored a.poly
     pub known : Have (IsKnown scope) a.poly
 

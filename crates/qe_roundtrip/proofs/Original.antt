@@ -17,7 +17,7 @@ use Rattle.qe_form.specs.Formula.{Formula, Formulas}
 use Rattle.qe_form.specs.Fed.{size}
 use Rattle.qe_print.specs.Polynomial.{name_of}
 use Rattle.qe_read.specs.declared.scope.Binder.{Binder}
-use Rattle.qe_read.specs.Names.{Letters, letters, letters_cmp, is_same, rank, bound_to, or_free, variable}
+use Rattle.qe_read.specs.Names.{Letters, letters, letters_cmp, is_same, names_before, bound_to, or_free, variable}
 use Rattle.qe_read.specs.FreeNames.{is_bound, free_in, free_names, free_names_each}
 use Rattle.qe_read.specs.Numbered.{binders, binders_each}
 use Rattle.qe_read.specs.Value.{value, added}
@@ -58,12 +58,12 @@ same_tied : (w : Letters) → letters_cmp w w ≡ Equal
 same_tied w = tied_back (letters_cmp w w) (nat_list_cmp_total.antisymm w w)
 
 -- the name at the place of a free name is that name
-free_name : (free more : List Letters) (w : Letters) → IsStrictlySortedBy letters_cmp free → Contains free w → name_of (free ++ more) (rank free w) ≡ w
+free_name : (free more : List Letters) (w : Letters) → IsStrictlySortedBy letters_cmp free → Contains free w → name_of (free ++ more) (names_before free w) ≡ w
 free_name free more w s (k, h, e) =
     let keyed : IsStrictlySortedBy letters_cmp (map (λ v. v) free) = subst (λ l. IsStrictlySortedBy letters_cmp l) (sym (mapped_same free)) s in
-    let at : rank (map (λ v. v) free) w ≡ k =
+    let at : names_before (map (λ v. v) free) w ≡ k =
     rank_found (λ (v : Letters). v) w free k keyed h (λ d. ap (λ v. letters_cmp v w) (get_or_default free k d w h ∙ e) ∙ same_tied w) in
-    let place : rank free w ≡ k = ap (λ l. rank l w) (sym (mapped_same free)) ∙ at in
+    let place : names_before free w ≡ k = ap (λ l. names_before l w) (sym (mapped_same free)) ∙ at in
     ap (name_of (free ++ more)) place ∙ name_front free more k h ∙ get_or_default free k [] w h ∙ e
 
 -- the name of a binder
@@ -99,7 +99,7 @@ module _ (names free : List Letters) (text : List ℕ) (sorted : IsStrictlySorte
     variable_name : (bs : List Binder) (x : Name) (o : Option Var) → bound_to text bs (letters text x) ≡ o → AllByRecursion IsNamed bs → (is_bound text (names_of bs) x ≡ false → Listed text free x)
         → name_of names (or_free free (letters text x) o).0 ≡ letters text x
     variable_name bs x (Some v) e h k = binder_name bs (letters text x) v h e
-    variable_name bs x None e h k = ap (λ l. name_of l (rank free (letters text x))) all ∙ free_name free more (letters text x) sorted (k (unbound text free bs (letters text x) e))
+    variable_name bs x None e h k = ap (λ l. name_of l (names_before free (letters text x))) all ∙ free_name free more (letters text x) sorted (k (unbound text free bs (letters text x) e))
 
     known : (bs : List Binder) (x : Name) → AllByRecursion IsNamed bs → IsName (letters text x) → (is_bound text (names_of bs) x ≡ false → Listed text free x) → IsKnown names free (scope_of text bs) (variable text free bs x).0
     known bs x h w k =

@@ -7,23 +7,23 @@ use Rattle.std.proofs.lemmas.Bool.{and_from}
 use Rattle.qe_token.specs.declared.token.Token.{Token}
 use Rattle.qe_token.specs.declared.token.Located.{Located}
 use Rattle.qe_token.specs.Bytes.{is_blank, is_digit, is_letter, is_name_byte, begins}
-use Rattle.qe_token.specs.Tokens.{AreBlanks, AreTokens, Spells, extends, pairs, goes_on}
-use Rattle.qe_syntax.specs.Grammar.{Mark, texts, ended}
-use Rattle.qe_syntax.specs.Faults.{is_wide, is_high}
+use Rattle.qe_token.specs.Tokens.{AreBlanks, AreTokens, Spells, extends, makes_relation, goes_on}
+use Rattle.qe_syntax.specs.Grammar.{Occurrence, tokens_of, with_end}
+use Rattle.qe_syntax.specs.Faults.{is_wide, is_high_exponent}
 
 -- the number at a mark, if there is one, is not too great
-abbrev pub Fits : Mark → Type 0
-Fits m = (is_wide m.token m.role ≡ false) × (is_high m.token m.role ≡ false)
+abbrev pub Fits : Occurrence → Type 0
+Fits m = (is_wide m.token m.role ≡ false) × (is_high_exponent m.token m.role ≡ false)
 
-abbrev pub AllFit : List Mark → Type 0
+abbrev pub AllFit : List Occurrence → Type 0
 AllFit [] = Unit {0}
 AllFit (m ∷ ms) = Fits m × AllFit ms
 
 -- From this place on, the bytes are the tokens of these marks, and no number among them is too great.
-pub record Reads (place : ℕ) (bytes : List ℕ) (ms : List Mark) : Type 0 where
+pub record Reads (place : ℕ) (bytes : List ℕ) (ms : List Occurrence) : Type 0 where
   pub tokens : List Located
   pub are : AreTokens place bytes tokens
-  pub spelled : texts ms ≡ ended tokens
+  pub spelled : tokens_of ms ≡ with_end tokens
   pub fit : AllFit ms
 
 -- ---- one token, and blanks
@@ -42,10 +42,10 @@ blanks_before place before rest (t ∷ ts) h (blanks, word, more, e, b, p, s, g,
   a,
 )
 
-pub reads_blanks : (place : ℕ) (before rest : List ℕ) (ms : List Mark) → AreBlanks before → Reads (place + length before) rest ms → Reads place (before ++ rest) ms
+pub reads_blanks : (place : ℕ) (before rest : List ℕ) (ms : List Occurrence) → AreBlanks before → Reads (place + length before) rest ms → Reads place (before ++ rest) ms
 reads_blanks place before rest ms h r = record { tokens = r.tokens; are = blanks_before place before rest r.tokens h r.are; spelled = r.spelled; fit = r.fit }
 
-pub reads_token : (place : ℕ) (word rest : List ℕ) (m : Mark) (ms : List Mark) (t : Token) → m.token ≡ Some t → Fits m → Spells place word t → begins (goes_on word) rest ≡ false
+pub reads_token : (place : ℕ) (word rest : List ℕ) (m : Occurrence) (ms : List Occurrence) (t : Token) → m.token ≡ Some t → Fits m → Spells place word t → begins (goes_on word) rest ≡ false
     → Reads (place + length word) rest ms → Reads place (word ++ rest) (m ∷ ms)
 reads_token place word rest m ms t is fits spells ends r = record {
   tokens = record { token = t; place = place } ∷ r.tokens;
@@ -81,13 +81,13 @@ extends_not a b h =
     let d = or_no (is_digit b) (b == 95) (or_no (is_letter b) (is_digit b || b == 95) h).1 in
     no_or (is_letter a && is_name_byte b) (is_digit a && is_digit b) (no_and (is_letter a) (is_name_byte b) h) (no_and (is_digit a) (is_digit b) d.0)
 
-pairs_not : (a b : ℕ) → (b == 61 || b == 62) ≡ false → pairs a b ≡ false
+pairs_not : (a b : ℕ) → (b == 61 || b == 62) ≡ false → makes_relation a b ≡ false
 pairs_not a b h =
     no_or (a == 60 && (b == 61 || b == 62)) (a == 62 && b == 61) (no_and (a == 60) (b == 61 || b == 62) h) (no_and (a == 62) (b == 61) (or_no (b == 61) (b == 62) h).0)
 
 stays : (word : List ℕ) (b : ℕ) → may_go_on b ≡ false → goes_on word b ≡ false
 stays [] b h = refl
-stays (a ∷ []) b h = let p = or_no (is_name_byte b) (b == 61 || b == 62) h in no_or (pairs a b) (extends a b) (pairs_not a b p.1) (extends_not a b p.0)
+stays (a ∷ []) b h = let p = or_no (is_name_byte b) (b == 61 || b == 62) h in no_or (makes_relation a b) (extends a b) (pairs_not a b p.1) (extends_not a b p.0)
 stays (a ∷ c ∷ word) b h = extends_not a b (or_no (is_name_byte b) (b == 61 || b == 62) h).0
 
 pub ends_before : (word rest : List ℕ) → Parts rest → begins (goes_on word) rest ≡ false
@@ -97,24 +97,24 @@ ends_before word (b ∷ rest) h = stays word b h
 -- ---- pieces of a text: what stands behind them is read as it is
 
 -- The text at this place is the tokens of marks, which are put before those of what follows, if this parts from it.
-pub record Open (place : ℕ) (text : List ℕ) (put : List Mark → List Mark) : Type 0 where
-  pub reads : (rest : List ℕ) (ms : List Mark) → Parts rest → Reads (place + length text) rest ms → Reads place (text ++ rest) (put ms)
+pub record Open (place : ℕ) (text : List ℕ) (put : List Occurrence → List Occurrence) : Type 0 where
+  pub reads : (rest : List ℕ) (ms : List Occurrence) → Parts rest → Reads (place + length text) rest ms → Reads place (text ++ rest) (put ms)
 
 -- The same whatever follows.
-pub record Closed (place : ℕ) (text : List ℕ) (put : List Mark → List Mark) : Type 0 where
-  pub reads : (rest : List ℕ) (ms : List Mark) → Reads (place + length text) rest ms → Reads place (text ++ rest) (put ms)
+pub record Closed (place : ℕ) (text : List ℕ) (put : List Occurrence → List Occurrence) : Type 0 where
+  pub reads : (rest : List ℕ) (ms : List Occurrence) → Reads (place + length text) rest ms → Reads place (text ++ rest) (put ms)
 
-pub opened : (place : ℕ) (text : List ℕ) (put : List Mark → List Mark) → Closed place text put → Open place text put
+pub opened : (place : ℕ) (text : List ℕ) (put : List Occurrence → List Occurrence) → Closed place text put → Open place text put
 opened place text put c = record { reads = λ rest ms p r. c.reads rest ms r }
 
 -- no text
 pub nothing : (place : ℕ) → Closed place [] (λ ms. ms)
 nothing place = record { reads = λ rest ms r. (let e : place + 0 ≡ place = omega arith in subst (λ n. Reads n rest ms) e r) }
 
-joined : (place : ℕ) (a b rest : List ℕ) (ms : List Mark) → Reads (place + length (a ++ b)) rest ms → Reads (place + length a + length b) rest ms
+joined : (place : ℕ) (a b rest : List ℕ) (ms : List Occurrence) → Reads (place + length (a ++ b)) rest ms → Reads (place + length a + length b) rest ms
 joined place a b rest ms r = let e : place + length (a ++ b) ≡ place + length a + length b = omega (arith, length-append a b) in subst (λ n. Reads n rest ms) e r
 
-module _ (place : ℕ) (a b : List ℕ) (f g : List Mark → List Mark) where
+module _ (place : ℕ) (a b : List ℕ) (f g : List Occurrence → List Occurrence) where
   pub closed_closed : Closed place a f → Closed (place + length a) b g → Closed place (a ++ b) (λ ms. f (g ms))
   closed_closed c d = record { reads = λ rest ms r. subst (λ bs. Reads place bs (f (g ms))) (sym (append_assoc a b rest)) (c.reads (b ++ rest) (g ms) (d.reads rest ms (joined place a b rest ms r))) }
 
@@ -128,7 +128,7 @@ module _ (place : ℕ) (a b : List ℕ) (f g : List Mark → List Mark) where
   open_open c q d = record { reads = λ rest ms p r. subst (λ bs. Reads place bs (f (g ms))) (sym (append_assoc a b rest)) (c.reads (b ++ rest) (g ms) (q rest p) (d.reads rest ms p (joined place a b rest ms r))) }
 
 -- one token with blanks around it, which parts it from what follows
-pub blank_token : (place : ℕ) (before word after : List ℕ) (m : Mark) (t : Token) → AreBlanks before → AreBlanks after → ((rest : List ℕ) → begins (goes_on word) (after ++ rest) ≡ false)
+pub blank_token : (place : ℕ) (before word after : List ℕ) (m : Occurrence) (t : Token) → AreBlanks before → AreBlanks after → ((rest : List ℕ) → begins (goes_on word) (after ++ rest) ≡ false)
     → m.token ≡ Some t → Fits m → Spells (place + length before) word t → Closed place (before ++ (word ++ after)) (λ ms. m ∷ ms)
 blank_token place before word after m t b a ends is fits spells = record {
   reads = λ rest ms r.
@@ -139,5 +139,5 @@ blank_token place before word after m t b a ends is fits spells = record {
 }
 
 -- one token alone
-pub one_token : (place : ℕ) (word : List ℕ) (m : Mark) (t : Token) → m.token ≡ Some t → Fits m → Spells place word t → Open place word (λ ms. m ∷ ms)
+pub one_token : (place : ℕ) (word : List ℕ) (m : Occurrence) (t : Token) → m.token ≡ Some t → Fits m → Spells place word t → Open place word (λ ms. m ∷ ms)
 one_token place word m t is fits spells = record { reads = λ rest ms p r. reads_token place word rest m ms t is fits spells (ends_before word rest p) r }

@@ -11,7 +11,7 @@ use Rattle.qe_poly.specs.Monomial.{Monomial}
 use Rattle.qe_poly.specs.Polynomial.{Term, Polynomial}
 use Rattle.qe_print.specs.Polynomial.{name_of, power_text, factors_text, term_text, terms_text, polynomial_text}
 use Rattle.qe_syntax.specs.Grammar as grammar
-use Rattle.qe_syntax.specs.Grammar.{Mark, plain, opener, figure, literal, exponent, sign_token}
+use Rattle.qe_syntax.specs.Grammar.{Occurrence, plain, opener, figure, literal, exponent, plus_or_minus}
 use Rattle.qe_roundtrip.proofs.Pieces.{Fits, Parts, Open, Closed, opened, nothing, closed_open, open_open, blank_token}
 use Rattle.qe_roundtrip.proofs.Numerals.{IsName, literal_opens, zero_opens, exponent_opens, name_opens}
 use Rattle.qe_roundtrip.proofs.Derived.{power_by, power_at, times_at, lead_by, tail_by, lead_at, tail_at, minus_if, joint, front, sums_at, poly_at}
@@ -19,7 +19,7 @@ use Rattle.qe_roundtrip.proofs.Derived.{power_by, power_at, times_at, lead_by, t
 -- ---- signs
 
 -- a sign that nothing makes longer
-pub bare_sign : (place : ℕ) (word : List ℕ) (m : Mark) (t : Token) → m.token ≡ Some t → Fits m → Spells place word t → ((b : ℕ) → goes_on word b ≡ false) → Closed place word (λ ms. m ∷ ms)
+pub bare_sign : (place : ℕ) (word : List ℕ) (m : Occurrence) (t : Token) → m.token ≡ Some t → Fits m → Spells place word t → ((b : ℕ) → goes_on word b ≡ false) → Closed place word (λ ms. m ∷ ms)
 bare_sign place word m t is fits spells never =
     let e : place + 0 ≡ place = omega arith in
     subst (λ text. Closed place text (λ ms. m ∷ ms)) (append-nil word)
@@ -38,7 +38,7 @@ caret place = bare_sign place (codes "^") (plain (token.Caret place)) (token.Car
 minus : (place depth : ℕ) (starts : Bool) → Closed place (codes "-") (λ ms. opener (token.Minus place) depth starts ∷ ms)
 minus place depth starts = bare_sign place (codes "-") (opener (token.Minus place) depth starts) (token.Minus place) refl (refl, refl) (refl, refl) (λ b. refl)
 
-joint_closes : (place : ℕ) (b : Bool) → Closed place (joint b) (λ ms. plain (sign_token (place + 1) b) ∷ ms)
+joint_closes : (place : ℕ) (b : Bool) → Closed place (joint b) (λ ms. plain (plus_or_minus (place + 1) b) ∷ ms)
 joint_closes place true = blank_token place (codes " ") (codes "-") (codes " ") (plain (token.Minus (place + 1))) (token.Minus (place + 1)) refl refl (λ rest. refl) refl (refl, refl) (refl, refl)
 joint_closes place false = blank_token place (codes " ") (codes "+") (codes " ") (plain (token.Plus (place + 1))) (token.Plus (place + 1)) refl refl (λ rest. refl) refl (refl, refl) (refl, refl)
 
@@ -114,10 +114,10 @@ module _ (names : List (List ℕ)) where
       let b = int_lt t.1 (pos 0) in
       let n = unsigned_abs t.1 in
       let here = place + length (joint b) in
-      let one : List Mark → List Mark = λ ms. grammar.signed depth false (lead_at names here n t.0) (grammar.timeses depth (tail_at names here n t.0) ms) in
-      open_open place (joint b ++ term_text names n t.0) (terms_text names ts) (λ ms. plain (sign_token (place + 1) b) ∷ one ms)
+      let one : List Occurrence → List Occurrence = λ ms. grammar.signed depth false (lead_at names here n t.0) (grammar.timeses depth (tail_at names here n t.0) ms) in
+      open_open place (joint b ++ term_text names n t.0) (terms_text names ts) (λ ms. plain (plus_or_minus (place + 1) b) ∷ one ms)
       (grammar.sums depth (sums_at names (place + length (joint b ++ term_text names n t.0)) ts))
-      (closed_open place (joint b) (term_text names n t.0) (λ ms. plain (sign_token (place + 1) b) ∷ ms) one (joint_closes place b) (term_opens here depth depth n false h.0.fits t.0 h.0.powers))
+      (closed_open place (joint b) (term_text names n t.0) (λ ms. plain (plus_or_minus (place + 1) b) ∷ ms) one (joint_closes place b) (term_opens here depth depth n false h.0.fits t.0 h.0.powers))
       (terms_part ts) (sums_open (place + length (joint b ++ term_text names n t.0)) depth ts h.1)
 
   -- ---- polynomials

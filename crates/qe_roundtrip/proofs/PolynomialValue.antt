@@ -24,7 +24,7 @@ use Rattle.qe_print.specs.Polynomial.{name_of, power_text, factors_text, term_te
 use Rattle.qe_syntax.specs.Tree.{TermTree, Addends, no_addend, addend, Factors, no_factor, factor}
 use Rattle.qe_syntax.specs.Grammar as grammar
 use Rattle.qe_syntax.specs.Grammar.{term_tree, sums_tree, product_tree, times_tree, signed_tree, power_tree}
-use Rattle.qe_read.specs.Value.{Value, next, at, added, multiplied, value, summed, factored}
+use Rattle.qe_read.specs.Value.{Value, proceed, at, added, multiplied, value, summed, factored}
 use Rattle.qe_read.proofs.Variables.{Have, Has}
 use Rattle.qe_roundtrip.proofs.Derived.{name_at, power_by, power_at, times_at, lead_by, tail_by, lead_at, tail_at, minus_if, joint, front, sums_at, poly_at}
 use Rattle.qe_roundtrip.proofs.Legible.{IsStored}
@@ -99,16 +99,16 @@ added_one p false q m c h s =
 
 -- ---- a single part stands alone
 
-next_same : (v : Value) (f : Polynomial → Value) → ((a : Polynomial) → f a ≡ Ok a) → v ≡ next v f
+next_same : (v : Value) (f : Polynomial → Value) → ((a : Polynomial) → f a ≡ Ok a) → v ≡ proceed v f
 next_same (Ok a) f h = sym (h a)
 next_same (Err met) f h = refl
 
 module _ (var : Name → Var) where
-  value_multiplied : (t : TermTree) (us : Factors) → value var (grammar.multiplied t us) ≡ next (value var t) (factored var us)
+  value_multiplied : (t : TermTree) (us : Factors) → value var (grammar.product_of t us) ≡ proceed (value var t) (factored var us)
   value_multiplied t no_factor = next_same (value var t) (factored var no_factor) (λ a. refl)
   value_multiplied t (factor p u us) = refl
 
-  value_summed : (t : TermTree) (us : Addends) → value var (grammar.summed t us) ≡ next (value var t) (summed var us)
+  value_summed : (t : TermTree) (us : Addends) → value var (grammar.sum_of t us) ≡ proceed (value var t) (summed var us)
   value_summed t no_addend = next_same (value var t) (summed var no_addend) (λ a. refl)
   value_summed t (addend p minus u us) = refl
 
@@ -184,8 +184,8 @@ module _ (names : List (List ℕ)) (whole : List ℕ) (var : Name → Var) (Q : 
       let low' : is_high ((k ++ a ∷ []) ++ m) ≡ false = ap is_high (sym grown) ∙ low in
       let here = at_front whole place (codes "*" ++ power_text names a) (factors_text names m) s in
       let rest = factored var (times_tree (times_at names (place + length (codes "*" ++ power_text names a)) m)) in
-      ap (λ v. next v (λ b. next (multiplied place ((k, c) ∷ []) b) rest)) (power_value (place + 1) a (last_positive k a m monomial) q.0 (at_behind whole place (codes "*") (power_text names a) here))
-      ∙ ap (λ v. next v rest) (one_more place k a c (front_monomial (k ++ a ∷ []) m monomial') (front_low (k ++ a ∷ []) m low') some fits)
+      ap (λ v. proceed v (λ b. proceed (multiplied place ((k, c) ∷ []) b) rest)) (power_value (place + 1) a (last_positive k a m monomial) q.0 (at_behind whole place (codes "*") (power_text names a) here))
+      ∙ ap (λ v. proceed v rest) (one_more place k a c (front_monomial (k ++ a ∷ []) m monomial') (front_low (k ++ a ∷ []) m low') some fits)
       ∙ factors_value (place + length (codes "*" ++ power_text names a)) m (k ++ a ∷ []) c monomial' low' some fits q.1 (at_behind whole place (codes "*" ++ power_text names a) (factors_text names m) s)
       ∙ ap (λ n. Ok ((n, c) ∷ [])) (sym grown)
 
@@ -231,14 +231,14 @@ module _ (names : List (List ℕ)) (whole : List ℕ) (var : Name → Var) (Q : 
   signed_fits false n h = omega (arith, ints)
 
   minus_value : (b : Bool) (at n : ℕ) (k : Monomial) (s : grammar.Signed) → value var (signed_tree s) ≡ Ok ((k, pos n) ∷ []) → value var (signed_tree (minus_if b at s)) ≡ Ok ((k, signed b n) ∷ [])
-  minus_value true at n k s h = ap (λ v. next v (λ a. Ok (negative a))) h
+  minus_value true at n k s h = ap (λ v. proceed v (λ a. Ok (negative a))) h
   minus_value false at n k s h = h
 
   term_value : (at place n : ℕ) (b : Bool) (m : Monomial) → IsMonomial m → is_high m ≡ false → n ≢ 0 → n ≤ 2 ^ 127 - 1 → Has Q m → At whole place (term_text names n m)
       → value var (product_tree (grammar.factors (minus_if b at (lead_at names place n m)) (tail_at names place n m))) ≡ Ok ((m, signed b n) ∷ [])
   term_value at place n b m h low some fits q s =
       value_multiplied var (signed_tree (minus_if b at (lead_at names place n m))) (times_tree (tail_at names place n m))
-      ∙ ap (λ v. next v (factored var (times_tree (tail_at names place n m)))) (minus_value b at n (first_power n m) (lead_at names place n m) (lead_value place n m h some fits q s))
+      ∙ ap (λ v. proceed v (factored var (times_tree (tail_at names place n m)))) (minus_value b at n (first_power n m) (lead_at names place n m) (lead_value place n m h some fits q s))
       ∙ tail_value place n m (signed b n) h low (some_signed b n some) (signed_fits b n fits) q s
 
   -- ---- sums
@@ -254,8 +254,8 @@ module _ (names : List (List ℕ)) (whole : List ℕ) (var : Name → Var) (Q : 
       let here = at_front whole place (joint b ++ term_text names n t.0) (terms_text names ts) s in
       let fits : n ≤ 2 ^ 127 - 1 = omega (arith, one.in_range.0) in
       let rest = summed var (sums_tree (sums_at names (place + length (joint b ++ term_text names n t.0)) ts)) in
-      ap (λ v. next v (λ r. next (added (place + 1) b p r) rest)) (term_value 0 (place + length (joint b)) n false t.0 one.polynomial.1 one.low.0 (some_magnitude t.1 one.polynomial.0) fits q.0 (at_behind whole place (joint b) (term_text names n t.0) here))
-      ∙ ap (λ v. next v rest) (added_one (place + 1) b p t.0 t.1 refl (stored_front (p ++ t ∷ []) ts stored))
+      ap (λ v. proceed v (λ r. proceed (added (place + 1) b p r) rest)) (term_value 0 (place + length (joint b)) n false t.0 one.polynomial.1 one.low.0 (some_magnitude t.1 one.polynomial.0) fits q.0 (at_behind whole place (joint b) (term_text names n t.0) here))
+      ∙ ap (λ v. proceed v rest) (added_one (place + 1) b p t.0 t.1 refl (stored_front (p ++ t ∷ []) ts stored))
       ∙ sums_value (place + length (joint b ++ term_text names n t.0)) ts (p ++ t ∷ []) stored q.1 (at_behind whole place (joint b ++ term_text names n t.0) (terms_text names ts) s)
       ∙ ap Ok (sym grown)
 
@@ -271,6 +271,6 @@ module _ (names : List (List ℕ)) (whole : List ℕ) (var : Name → Var) (Q : 
       let first = grammar.factors (minus_if b place (lead_at names (place + length (front b)) n t.0)) (tail_at names (place + length (front b)) n t.0) in
       let rest = sums_tree (sums_at names (place + length (front b ++ term_text names n t.0)) ts) in
       value_summed var (product_tree first) rest
-      ∙ ap (λ v. next v (summed var rest)) (term_value place (place + length (front b)) n b t.0 h.polynomial.1 h.low.0 (some_magnitude t.1 h.polynomial.0) fits q.0 (at_behind whole place (front b) (term_text names n t.0) here)
+      ∙ ap (λ v. proceed v (summed var rest)) (term_value place (place + length (front b)) n b t.0 h.polynomial.1 h.low.0 (some_magnitude t.1 h.polynomial.0) fits q.0 (at_behind whole place (front b) (term_text names n t.0) here)
       ∙ ap (λ c. Ok ((t.0, c) ∷ [])) (signed_back b t.1 refl))
       ∙ sums_value (place + length (front b ++ term_text names n t.0)) ts (t ∷ []) h q.1 (at_behind whole place (front b ++ term_text names n t.0) (terms_text names ts) s)

@@ -5,7 +5,7 @@ use Rattle.std.proofs.lemmas.Bool.Decides.{nat_tests}
 use Rattle.qe_token.specs.declared.token.Name.{Name}
 use Rattle.qe_syntax.specs.Tree.{TermTree, Addends, no_addend, addend, Factors, no_factor, factor, FormulaTree, FormulaTrees, no_more, more}
 use Rattle.qe_syntax.specs.Tree as tree
-use Rattle.qe_syntax.specs.Grammar.{Term, Sums, Product, Times, Signed, Power, Primary, Atom, sum, no_sum, sign, factors, no_times, times, negative, positive, base, raised, number, name, group, compare, Formula, Scope, Simple, Disj, Ors, Conj, Ands, Unary, quantified, open_formula, further, body, alone, joined, ors, no_or, or, ands, no_and, and, not, constant, bracket, atom, Mark, term, sums, product, timeses, signed, power, primary, comparison, formula, scope, simple, disj, orses, conj, andses, unary, term_tree, sums_tree, product_tree, times_tree, signed_tree, power_tree, primary_tree, atom_tree, formula_tree, scope_tree, simple_tree, disj_tree, ors_trees, conj_tree, ands_trees, unary_tree, summed, multiplied, conjoined, disjoined, bound, linked, constant_tree, is_name}
+use Rattle.qe_syntax.specs.Grammar.{Term, Sums, Product, Times, Signed, Power, Primary, Atom, sum, no_sum, sign, factors, no_times, times, negative, positive, base, raised, number, name, group, compare, Formula, Scope, Simple, Disj, Ors, Conj, Ands, Unary, quantified, open_formula, further, body, alone, joined, ors, no_or, or, ands, no_and, and, not, constant, bracket, atom, Occurrence, term, sums, product, timeses, signed, power, primary, comparison, formula, scope, simple, disj, orses, conj, andses, unary, term_tree, sums_tree, product_tree, times_tree, signed_tree, power_tree, primary_tree, atom_tree, formula_tree, scope_tree, simple_tree, disj_tree, ors_trees, conj_tree, ands_trees, unary_tree, sum_of, product_of, conjoined, disjoined, bound, linked, constant_tree, is_name}
 use Rattle.qe_syntax.specs.Faults.{counted, most_exponent}
 use Rattle.qe_roundtrip.proofs.Pieces.{AllFit}
 
@@ -49,11 +49,11 @@ abbrev mutual
   AreShaped no_more = Unit {0}
   AreShaped (more f fs) = IsShaped f × AreShaped fs
 
-low_sum : (t : TermTree) (us : Addends) → IsLowTerm t → AreLowAddends us → IsLowTerm (summed t us)
+low_sum : (t : TermTree) (us : Addends) → IsLowTerm t → AreLowAddends us → IsLowTerm (sum_of t us)
 low_sum t no_addend h k = h
 low_sum t (addend at minus u us) h k = (h, k)
 
-low_product : (t : TermTree) (us : Factors) → IsLowTerm t → AreLowFactors us → IsLowTerm (multiplied t us)
+low_product : (t : TermTree) (us : Factors) → IsLowTerm t → AreLowFactors us → IsLowTerm (product_of t us)
 low_product t no_factor h k = h
 low_product t (factor at u us) h k = (h, k)
 
@@ -62,42 +62,42 @@ not_above true n h = grind (arith, nat_tests)
 not_above false n h = let l : n ≤ 255 = grind (arith, nat_tests) in omega arith
 
 mutual
-  low_term : (depth : ℕ) (b : Bool) (t : Term) (r : List Mark) → AllFit (term depth b t r) → IsLowTerm (term_tree t) × AllFit r
+  low_term : (depth : ℕ) (b : Bool) (t : Term) (r : List Occurrence) → AllFit (term depth b t r) → IsLowTerm (term_tree t) × AllFit r
   low_term depth b (sum p ps) r h =
       let w = low_of_product depth b p (sums depth ps r) h in
       let v = low_sums depth ps r w.1 in (low_sum (product_tree p) (sums_tree ps) w.0 v.0, v.1)
 
-  low_sums : (depth : ℕ) (ps : Sums) (r : List Mark) → AllFit (sums depth ps r) → AreLowAddends (sums_tree ps) × AllFit r
+  low_sums : (depth : ℕ) (ps : Sums) (r : List Occurrence) → AllFit (sums depth ps r) → AreLowAddends (sums_tree ps) × AllFit r
   low_sums depth no_sum r h = (tt, h)
   low_sums depth (sign at minus p ps) r h =
       let w = low_of_product depth false p (sums depth ps r) h.1 in
       let v = low_sums depth ps r w.1 in ((w.0, v.0), v.1)
 
-  low_of_product : (depth : ℕ) (b : Bool) (p : Product) (r : List Mark) → AllFit (product depth b p r) → IsLowTerm (product_tree p) × AllFit r
+  low_of_product : (depth : ℕ) (b : Bool) (p : Product) (r : List Occurrence) → AllFit (product depth b p r) → IsLowTerm (product_tree p) × AllFit r
   low_of_product depth b (factors s ss) r h =
       let w = low_signed depth b s (timeses depth ss r) h in
       let v = low_times depth ss r w.1 in (low_product (signed_tree s) (times_tree ss) w.0 v.0, v.1)
 
-  low_times : (depth : ℕ) (ss : Times) (r : List Mark) → AllFit (timeses depth ss r) → AreLowFactors (times_tree ss) × AllFit r
+  low_times : (depth : ℕ) (ss : Times) (r : List Occurrence) → AllFit (timeses depth ss r) → AreLowFactors (times_tree ss) × AllFit r
   low_times depth no_times r h = (tt, h)
   low_times depth (times at s ss) r h =
       let w = low_signed depth false s (timeses depth ss r) h.1 in
       let v = low_times depth ss r w.1 in ((w.0, v.0), v.1)
 
-  low_signed : (depth : ℕ) (b : Bool) (s : Signed) (r : List Mark) → AllFit (signed depth b s r) → IsLowTerm (signed_tree s) × AllFit r
+  low_signed : (depth : ℕ) (b : Bool) (s : Signed) (r : List Occurrence) → AllFit (signed depth b s r) → IsLowTerm (signed_tree s) × AllFit r
   low_signed depth b (negative at s) r h = low_signed (depth + 1) false s r h.1
   low_signed depth b (positive p) r h = low_power depth b p r h
 
-  low_power : (depth : ℕ) (b : Bool) (p : Power) (r : List Mark) → AllFit (power depth b p r) → IsLowTerm (power_tree p) × AllFit r
+  low_power : (depth : ℕ) (b : Bool) (p : Power) (r : List Occurrence) → AllFit (power depth b p r) → IsLowTerm (power_tree p) × AllFit r
   low_power depth b (base a) r h = low_primary depth b a r h
   low_power depth b (raised a at n) r h = let w = low_primary depth b a _ h in ((w.0, not_above (is_name a) n w.1.1.0.1), w.1.1.1)
 
-  low_primary : (depth : ℕ) (b : Bool) (a : Primary) (r : List Mark) → AllFit (primary depth b a r) → IsLowTerm (primary_tree a) × AllFit r
+  low_primary : (depth : ℕ) (b : Bool) (a : Primary) (r : List Occurrence) → AllFit (primary depth b a r) → IsLowTerm (primary_tree a) × AllFit r
   low_primary depth b (number n) r h = (tt, h.1)
   low_primary depth b (name x) r h = (tt, h.1)
   low_primary depth b (group t) r h = let w = low_term (depth + 1) false t _ h.1 in (w.0, w.1.1)
 
-shaped_comparison : (depth : ℕ) (a : Atom) (r : List Mark) → AllFit (comparison depth a r) → IsShaped (atom_tree a) × AllFit r
+shaped_comparison : (depth : ℕ) (a : Atom) (r : List Occurrence) → AllFit (comparison depth a r) → IsShaped (atom_tree a) × AllFit r
 shaped_comparison depth (compare t at k u) r h =
     let w = low_term depth true t _ h in
     let v = low_term depth false u r w.1.1 in ((w.0, v.0), v.1)
@@ -123,43 +123,43 @@ shaped_disjoined f no_more h k = h
 shaped_disjoined f (more g gs) h k = (omega arith, (h, k))
 
 mutual
-  pub shaped_formula : (depth : ℕ) (f : Formula) (r : List Mark) → AllFit (formula depth f r) → IsShaped (formula_tree f) × AllFit r
+  pub shaped_formula : (depth : ℕ) (f : Formula) (r : List Occurrence) → AllFit (formula depth f r) → IsShaped (formula_tree f) × AllFit r
   shaped_formula depth (quantified all x s) r h = let w = shaped_scope (depth + 1) all s r h.1.1 in (shaped_bound all x (scope_tree all s) w.0, w.1)
   shaped_formula depth (open_formula s) r h = shaped_simple depth s r h
 
-  shaped_scope : (depth : ℕ) (all : Bool) (s : Scope) (r : List Mark) → AllFit (scope depth s r) → IsShaped (scope_tree all s) × AllFit r
+  shaped_scope : (depth : ℕ) (all : Bool) (s : Scope) (r : List Occurrence) → AllFit (scope depth s r) → IsShaped (scope_tree all s) × AllFit r
   shaped_scope depth all (further x s) r h = let w = shaped_scope (depth + 1) all s r h.1 in (shaped_bound all x (scope_tree all s) w.0, w.1)
   shaped_scope depth all (body f) r h = shaped_formula depth f r h.1
 
-  shaped_simple : (depth : ℕ) (s : Simple) (r : List Mark) → AllFit (simple depth s r) → IsShaped (simple_tree s) × AllFit r
+  shaped_simple : (depth : ℕ) (s : Simple) (r : List Occurrence) → AllFit (simple depth s r) → IsShaped (simple_tree s) × AllFit r
   shaped_simple depth (alone d) r h = shaped_disj depth d r h
   shaped_simple depth (joined both d e) r h =
       let w = shaped_disj depth d _ h in
       let v = shaped_disj depth e r w.1.1 in (shaped_linked both (disj_tree d) (disj_tree e) w.0 v.0, v.1)
 
-  shaped_disj : (depth : ℕ) (d : Disj) (r : List Mark) → AllFit (disj depth d r) → IsShaped (disj_tree d) × AllFit r
+  shaped_disj : (depth : ℕ) (d : Disj) (r : List Occurrence) → AllFit (disj depth d r) → IsShaped (disj_tree d) × AllFit r
   shaped_disj depth (ors c cs) r h =
       let w = shaped_conj depth c (orses depth cs r) h in
       let v = shaped_orses depth cs r w.1 in (shaped_disjoined (conj_tree c) (ors_trees cs) w.0 v.0, v.1)
 
-  shaped_orses : (depth : ℕ) (cs : Ors) (r : List Mark) → AllFit (orses depth cs r) → AreShaped (ors_trees cs) × AllFit r
+  shaped_orses : (depth : ℕ) (cs : Ors) (r : List Occurrence) → AllFit (orses depth cs r) → AreShaped (ors_trees cs) × AllFit r
   shaped_orses depth no_or r h = (tt, h)
   shaped_orses depth (or c cs) r h =
       let w = shaped_conj depth c (orses depth cs r) h.1 in
       let v = shaped_orses depth cs r w.1 in ((w.0, v.0), v.1)
 
-  shaped_conj : (depth : ℕ) (c : Conj) (r : List Mark) → AllFit (conj depth c r) → IsShaped (conj_tree c) × AllFit r
+  shaped_conj : (depth : ℕ) (c : Conj) (r : List Occurrence) → AllFit (conj depth c r) → IsShaped (conj_tree c) × AllFit r
   shaped_conj depth (ands u us) r h =
       let w = shaped_unary depth u (andses depth us r) h in
       let v = shaped_andses depth us r w.1 in (shaped_conjoined (unary_tree u) (ands_trees us) w.0 v.0, v.1)
 
-  shaped_andses : (depth : ℕ) (us : Ands) (r : List Mark) → AllFit (andses depth us r) → AreShaped (ands_trees us) × AllFit r
+  shaped_andses : (depth : ℕ) (us : Ands) (r : List Occurrence) → AllFit (andses depth us r) → AreShaped (ands_trees us) × AllFit r
   shaped_andses depth no_and r h = (tt, h)
   shaped_andses depth (and u us) r h =
       let w = shaped_unary depth u (andses depth us r) h.1 in
       let v = shaped_andses depth us r w.1 in ((w.0, v.0), v.1)
 
-  shaped_unary : (depth : ℕ) (u : Unary) (r : List Mark) → AllFit (unary depth u r) → IsShaped (unary_tree u) × AllFit r
+  shaped_unary : (depth : ℕ) (u : Unary) (r : List Occurrence) → AllFit (unary depth u r) → IsShaped (unary_tree u) × AllFit r
   shaped_unary depth (not u) r h = shaped_unary (depth + 1) u r h.1
   shaped_unary depth (constant value) r h = (shaped_constant value, h.1)
   shaped_unary depth (bracket f) r h = let w = shaped_formula (depth + 1) f _ h.1 in (w.0, w.1.1)
@@ -190,34 +190,34 @@ abbrev pub one_if : Bool → ℕ → ℕ
 one_if b k = if b then k + 1 else k
 
 mutual
-  count_term : (k depth : ℕ) (b : Bool) (t : Term) (r : List Mark) → counted k (term depth b t r) ≡ counted (one_if b k) r
+  count_term : (k depth : ℕ) (b : Bool) (t : Term) (r : List Occurrence) → counted k (term depth b t r) ≡ counted (one_if b k) r
   count_term k depth b (sum p ps) r = count_product k depth b p (sums depth ps r) ∙ count_sums (one_if b k) depth ps r
 
-  count_sums : (k depth : ℕ) (ps : Sums) (r : List Mark) → counted k (sums depth ps r) ≡ counted k r
+  count_sums : (k depth : ℕ) (ps : Sums) (r : List Occurrence) → counted k (sums depth ps r) ≡ counted k r
   count_sums k depth no_sum r = refl
   count_sums k depth (sign at minus p ps) r = count_product k depth false p (sums depth ps r) ∙ count_sums k depth ps r
 
-  count_product : (k depth : ℕ) (b : Bool) (p : Product) (r : List Mark) → counted k (product depth b p r) ≡ counted (one_if b k) r
+  count_product : (k depth : ℕ) (b : Bool) (p : Product) (r : List Occurrence) → counted k (product depth b p r) ≡ counted (one_if b k) r
   count_product k depth b (factors s ss) r = count_signed k depth b s (timeses depth ss r) ∙ count_times (one_if b k) depth ss r
 
-  count_times : (k depth : ℕ) (ss : Times) (r : List Mark) → counted k (timeses depth ss r) ≡ counted k r
+  count_times : (k depth : ℕ) (ss : Times) (r : List Occurrence) → counted k (timeses depth ss r) ≡ counted k r
   count_times k depth no_times r = refl
   count_times k depth (times at s ss) r = count_signed k depth false s (timeses depth ss r) ∙ count_times k depth ss r
 
-  count_signed : (k depth : ℕ) (b : Bool) (s : Signed) (r : List Mark) → counted k (signed depth b s r) ≡ counted (one_if b k) r
+  count_signed : (k depth : ℕ) (b : Bool) (s : Signed) (r : List Occurrence) → counted k (signed depth b s r) ≡ counted (one_if b k) r
   count_signed k depth b (negative at s) r = count_signed (one_if b k) (depth + 1) false s r
   count_signed k depth b (positive p) r = count_power k depth b p r
 
-  count_power : (k depth : ℕ) (b : Bool) (p : Power) (r : List Mark) → counted k (power depth b p r) ≡ counted (one_if b k) r
+  count_power : (k depth : ℕ) (b : Bool) (p : Power) (r : List Occurrence) → counted k (power depth b p r) ≡ counted (one_if b k) r
   count_power k depth b (base a) r = count_primary k depth b a r
   count_power k depth b (raised a at n) r = count_primary k depth b a _
 
-  count_primary : (k depth : ℕ) (b : Bool) (a : Primary) (r : List Mark) → counted k (primary depth b a r) ≡ counted (one_if b k) r
+  count_primary : (k depth : ℕ) (b : Bool) (a : Primary) (r : List Occurrence) → counted k (primary depth b a r) ≡ counted (one_if b k) r
   count_primary k depth b (number n) r = refl
   count_primary k depth b (name x) r = refl
   count_primary k depth b (group t) r = count_term (one_if b k) (depth + 1) false t _
 
-count_comparison : (k depth : ℕ) (a : Atom) (r : List Mark) → counted k (comparison depth a r) ≡ counted (k + begun_in (atom_tree a)) r
+count_comparison : (k depth : ℕ) (a : Atom) (r : List Occurrence) → counted k (comparison depth a r) ≡ counted (k + begun_in (atom_tree a)) r
 count_comparison k depth (compare t at q u) r = count_term k depth true t _ ∙ count_term (k + 1) depth false u r
 
 count_bound : (all : Bool) (x : Name) (f : FormulaTree) → begun_in (bound all x f) ≡ 1 + begun_in f
@@ -244,45 +244,45 @@ sum_up : (k a b c : ℕ) → c ≡ a + b → k + a + b ≡ k + c
 sum_up k a b c e = omega arith
 
 mutual
-  pub count_formula : (k depth : ℕ) (f : Formula) (r : List Mark) → counted k (formula depth f r) ≡ counted (k + begun_in (formula_tree f)) r
+  pub count_formula : (k depth : ℕ) (f : Formula) (r : List Occurrence) → counted k (formula depth f r) ≡ counted (k + begun_in (formula_tree f)) r
   count_formula k depth (quantified all x s) r =
       count_scope (k + 1) (depth + 1) all s r ∙ ap (λ n. counted n r) (sum_up k 1 (begun_in (scope_tree all s)) (begun_in (bound all x (scope_tree all s))) (count_bound all x (scope_tree all s)))
   count_formula k depth (open_formula s) r = count_simple k depth s r
 
-  count_scope : (k depth : ℕ) (all : Bool) (s : Scope) (r : List Mark) → counted k (scope depth s r) ≡ counted (k + begun_in (scope_tree all s)) r
+  count_scope : (k depth : ℕ) (all : Bool) (s : Scope) (r : List Occurrence) → counted k (scope depth s r) ≡ counted (k + begun_in (scope_tree all s)) r
   count_scope k depth all (further x s) r =
       count_scope (k + 1) (depth + 1) all s r ∙ ap (λ n. counted n r) (sum_up k 1 (begun_in (scope_tree all s)) (begun_in (bound all x (scope_tree all s))) (count_bound all x (scope_tree all s)))
   count_scope k depth all (body f) r = count_formula k depth f r
 
-  count_simple : (k depth : ℕ) (s : Simple) (r : List Mark) → counted k (simple depth s r) ≡ counted (k + begun_in (simple_tree s)) r
+  count_simple : (k depth : ℕ) (s : Simple) (r : List Occurrence) → counted k (simple depth s r) ≡ counted (k + begun_in (simple_tree s)) r
   count_simple k depth (alone d) r = count_disj k depth d r
   count_simple k depth (joined both d e) r =
       count_disj k depth d _ ∙ count_disj (k + begun_in (disj_tree d)) depth e r
       ∙ ap (λ n. counted n r) (sum_up k (begun_in (disj_tree d)) (begun_in (disj_tree e)) (begun_in (linked both (disj_tree d) (disj_tree e))) (count_linked both (disj_tree d) (disj_tree e)))
 
-  count_disj : (k depth : ℕ) (d : Disj) (r : List Mark) → counted k (disj depth d r) ≡ counted (k + begun_in (disj_tree d)) r
+  count_disj : (k depth : ℕ) (d : Disj) (r : List Occurrence) → counted k (disj depth d r) ≡ counted (k + begun_in (disj_tree d)) r
   count_disj k depth (ors c cs) r =
       count_conj k depth c (orses depth cs r) ∙ count_orses (k + begun_in (conj_tree c)) depth cs r
       ∙ ap (λ n. counted n r) (sum_up k (begun_in (conj_tree c)) (begun_each (ors_trees cs)) (begun_in (disjoined (conj_tree c) (ors_trees cs))) (count_disjoined (conj_tree c) (ors_trees cs)))
 
-  count_orses : (k depth : ℕ) (cs : Ors) (r : List Mark) → counted k (orses depth cs r) ≡ counted (k + begun_each (ors_trees cs)) r
+  count_orses : (k depth : ℕ) (cs : Ors) (r : List Occurrence) → counted k (orses depth cs r) ≡ counted (k + begun_each (ors_trees cs)) r
   count_orses k depth no_or r = ap (λ n. counted n r) (let e : k ≡ k + 0 = omega arith in e)
   count_orses k depth (or c cs) r =
       count_conj k depth c (orses depth cs r) ∙ count_orses (k + begun_in (conj_tree c)) depth cs r
       ∙ ap (λ n. counted n r) (sum_up k (begun_in (conj_tree c)) (begun_each (ors_trees cs)) (begun_in (conj_tree c) + begun_each (ors_trees cs)) refl)
 
-  count_conj : (k depth : ℕ) (c : Conj) (r : List Mark) → counted k (conj depth c r) ≡ counted (k + begun_in (conj_tree c)) r
+  count_conj : (k depth : ℕ) (c : Conj) (r : List Occurrence) → counted k (conj depth c r) ≡ counted (k + begun_in (conj_tree c)) r
   count_conj k depth (ands u us) r =
       count_unary k depth u (andses depth us r) ∙ count_andses (k + begun_in (unary_tree u)) depth us r
       ∙ ap (λ n. counted n r) (sum_up k (begun_in (unary_tree u)) (begun_each (ands_trees us)) (begun_in (conjoined (unary_tree u) (ands_trees us))) (count_conjoined (unary_tree u) (ands_trees us)))
 
-  count_andses : (k depth : ℕ) (us : Ands) (r : List Mark) → counted k (andses depth us r) ≡ counted (k + begun_each (ands_trees us)) r
+  count_andses : (k depth : ℕ) (us : Ands) (r : List Occurrence) → counted k (andses depth us r) ≡ counted (k + begun_each (ands_trees us)) r
   count_andses k depth no_and r = ap (λ n. counted n r) (let e : k ≡ k + 0 = omega arith in e)
   count_andses k depth (and u us) r =
       count_unary k depth u (andses depth us r) ∙ count_andses (k + begun_in (unary_tree u)) depth us r
       ∙ ap (λ n. counted n r) (sum_up k (begun_in (unary_tree u)) (begun_each (ands_trees us)) (begun_in (unary_tree u) + begun_each (ands_trees us)) refl)
 
-  count_unary : (k depth : ℕ) (u : Unary) (r : List Mark) → counted k (unary depth u r) ≡ counted (k + begun_in (unary_tree u)) r
+  count_unary : (k depth : ℕ) (u : Unary) (r : List Occurrence) → counted k (unary depth u r) ≡ counted (k + begun_in (unary_tree u)) r
   count_unary k depth (not u) r = count_unary k (depth + 1) u r
   count_unary k depth (constant value) r = ap (λ n. counted n r) (let e : k + 1 ≡ k + begun_in (constant_tree value) = ap (λ n. k + n) (sym (count_constant value)) in e)
   count_unary k depth (bracket f) r = count_formula k (depth + 1) f _

@@ -7,7 +7,7 @@ use Rattle.qe_poly.specs.declared.monomial.Var.{Var}
 use Rattle.qe_poly.specs.Limits.{sum_limit, product_limit}
 use Rattle.qe_poly.specs.Polynomial.{Polynomial, constant, power_of, negative, sum, difference, product}
 use Rattle.qe_syntax.specs.Tree.{TermTree, Number, Variable, Negative, Power, Sum, Product, Addends, no_addend, addend, Factors, no_factor, factor}
-use Rattle.qe_read.specs.Value.{Value, next, at, added, multiplied, repeated, raised, power_value, name_of, literal, value, summed, factored}
+use Rattle.qe_read.specs.Value.{Value, proceed, at, added, multiplied, repeated, raised, power_value, as_name, literal, value, summed, factored}
 use Rattle.qe_read.proofs.Valued.{next_ok}
 use Rattle.qe_roundtrip.proofs.Legible.{IsStored}
 use Rattle.qe_roundtrip.proofs.Stored.{stored_constant, stored_power, stored_negative, stored_sum, stored_difference, stored_product}
@@ -49,20 +49,20 @@ module _ (var : Name → Var) where
     stored_value (Number n) q h e = ok (constant (pos (literal n))) q (of_number n) e
     stored_value (Variable x) q h e = ok (power_of (var x) 1) q (stored_power (var x) 1 (omega arith)) e
     stored_value (Negative t) q h e = let r = next_ok (value var t) (λ a. Ok (negative a)) q e in ok (negative r.0) q (stored_negative r.0 (stored_value t r.0 h r.1)) r.2
-    stored_value (Power t p n) q h e = of_power_value (name_of t) (value var t) p n q h.1 (λ a f. stored_value t a h.0 f) e
+    stored_value (Power t p n) q h e = of_power_value (as_name t) (value var t) p n q h.1 (λ a f. stored_value t a h.0 f) e
     stored_value (Sum t us) q h e = let r = next_ok (value var t) (summed var us) q e in stored_summed us r.0 q (stored_value t r.0 h.0 r.1) h.1 r.2
     stored_value (Product t us) q h e = let r = next_ok (value var t) (factored var us) q e in stored_factored us r.0 q (stored_value t r.0 h.0 r.1) h.1 r.2
 
     stored_summed : (us : Addends) (a q : Polynomial) → IsStored a → AreLowAddends us → summed var us a ≡ Ok q → IsStored q
     stored_summed no_addend a q k h e = ok a q k e
     stored_summed (addend p minus t us) a q k h e =
-        let r = next_ok (value var t) (λ b. next (added p minus a b) (summed var us)) q e in
+        let r = next_ok (value var t) (λ b. proceed (added p minus a b) (summed var us)) q e in
         let s = next_ok (added p minus a r.0) (summed var us) q r.2 in
         stored_summed us s.0 q (of_added p minus a r.0 s.0 k (stored_value t r.0 h.0 r.1) s.1) h.1 s.2
 
     stored_factored : (us : Factors) (a q : Polynomial) → IsStored a → AreLowFactors us → factored var us a ≡ Ok q → IsStored q
     stored_factored no_factor a q k h e = ok a q k e
     stored_factored (factor p t us) a q k h e =
-        let r = next_ok (value var t) (λ b. next (multiplied p a b) (factored var us)) q e in
+        let r = next_ok (value var t) (λ b. proceed (multiplied p a b) (factored var us)) q e in
         let s = next_ok (multiplied p a r.0) (factored var us) q r.2 in
         stored_factored us s.0 q (of_multiplied p a r.0 s.0 k (stored_value t r.0 h.0 r.1) s.1) h.1 s.2

@@ -3,7 +3,7 @@ use Rattle.std.specs.Prelude.{ℕ, ◌<◌, ◌≡◌, false, List, [], ◌∷�
 use Rattle.std.specs.List.{Contains}
 use Rattle.qe_token.specs.declared.token.Located.{Located}
 use Rattle.qe_token.specs.Tokens.{AreTokens}
-use Rattle.qe_syntax.specs.Grammar.{Mark, input, texts, ended}
+use Rattle.qe_syntax.specs.Grammar.{Occurrence, input, tokens_of, with_end}
 use Rattle.qe_syntax.specs.Grammar as grammar
 use Rattle.qe_syntax.specs.Faults.{is_deep}
 use Rattle.qe_form.specs.Formula.{Formula}
@@ -18,13 +18,13 @@ abbrev pub FreeNamesOccur : Formula → List Letters → Type 0
 FreeNamesOccur f names = (x : ℕ) → x < length names → (Contains (binders f) x → ⊥) → Has x f
 
 -- none of the tokens opens a level while 256 are open
-abbrev pub AreShallow : List Mark → Type 0
+abbrev pub AreShallow : List Occurrence → Type 0
 AreShallow [] = Unit {0}
 AreShallow (m ∷ ms) = (is_deep m.opens ≡ false) × AreShallow ms
 
 -- the tokens of the bytes, as the grammar derives them, open at most 256 levels
 abbrev pub OpensFewLevels : List ℕ → Type 0
-OpensFewLevels bytes = (tokens : List Located) (derived : grammar.Formula) → AreTokens 0 bytes tokens → texts (input derived) ≡ ended tokens → AreShallow (input derived)
+OpensFewLevels bytes = (tokens : List Located) (derived : grammar.Formula) → AreTokens 0 bytes tokens → tokens_of (input derived) ≡ with_end tokens → AreShallow (input derived)
 
 -- Where bytes stand for a formula with names, so does the text of the formula, for the same formula with the same names.
 -- The text is to open few levels, and each free name is to occur in it.

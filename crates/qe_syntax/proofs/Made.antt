@@ -14,7 +14,7 @@ use Rattle.qe_syntax.specs.declared.tree.Term.TheFolds.{fold-roll-Term, fold-rol
 use Rattle.qe_syntax.specs.Tree as tree
 use Rattle.qe_syntax.specs.Tree.{TermTree}
 use Rattle.qe_syntax.specs.Code.{AddendTree, FactorTree, term_of, addend_of, factor_of, addends_of, factors_of, term_step, addend_step, factor_step}
-use Rattle.qe_syntax.specs.Grammar.{summed, multiplied}
+use Rattle.qe_syntax.specs.Grammar.{sum_of, product_of}
 
 pub made_number : (n : ℕ) → term_of (term.Number n) ≡ tree.Number n
 made_number n = ap term_of (sym (rolls-Number n)) ∙ fold-roll-Term TermTree AddendTree FactorTree term_step addend_step factor_step (layer.Term-F.Number n)
@@ -28,25 +28,25 @@ made_negative b t e = ap term_of (sym (rolls-Negative b)) ∙ fold-roll-Term Ter
 pub made_power : (b : Box Term Global) (t : Term) (p n : ℕ) → b.value ≡ t → term_of (term.Power b p n) ≡ tree.Power (term_of t) p n
 made_power b t p n e = ap term_of (sym (rolls-Power b p n)) ∙ fold-roll-Term TermTree AddendTree FactorTree term_step addend_step factor_step (layer.Term-F.Power b p n) ∙ ap (λ (u : Term). tree.Power (term_of u) p n) e
 
-sums : (t : TermTree) (xs : List Addend) → 0 < length xs → tree.Sum t (addends_of (map addend_of xs)) ≡ summed t (addends_of (map addend_of xs))
+sums : (t : TermTree) (xs : List Addend) → 0 < length xs → tree.Sum t (addends_of (map addend_of xs)) ≡ sum_of t (addends_of (map addend_of xs))
 sums t [] h = absurd (omega arith)
 sums t (x ∷ xs) h = refl
 
-pub made_sum : (b : Box Term Global) (t : Term) (xs : List Addend) → b.value ≡ t → 0 < length xs → term_of (term.Sum b xs) ≡ summed (term_of t) (addends_of (map addend_of xs))
+pub made_sum : (b : Box Term Global) (t : Term) (xs : List Addend) → b.value ≡ t → 0 < length xs → term_of (term.Sum b xs) ≡ sum_of (term_of t) (addends_of (map addend_of xs))
 made_sum b t xs e h = ap term_of (sym (rolls-Sum b xs)) ∙ fold-roll-Term TermTree AddendTree FactorTree term_step addend_step factor_step (layer.Term-F.Sum b xs) ∙ ap (λ (u : Term). tree.Sum (term_of u) (addends_of (map addend_of xs))) e ∙ sums (term_of t) xs h
 
-products : (t : TermTree) (xs : List Factor) → 0 < length xs → tree.Product t (factors_of (map factor_of xs)) ≡ multiplied t (factors_of (map factor_of xs))
+products : (t : TermTree) (xs : List Factor) → 0 < length xs → tree.Product t (factors_of (map factor_of xs)) ≡ product_of t (factors_of (map factor_of xs))
 products t [] h = absurd (omega arith)
 products t (x ∷ xs) h = refl
 
-pub made_product : (b : Box Term Global) (t : Term) (xs : List Factor) → b.value ≡ t → 0 < length xs → term_of (term.Product b xs) ≡ multiplied (term_of t) (factors_of (map factor_of xs))
+pub made_product : (b : Box Term Global) (t : Term) (xs : List Factor) → b.value ≡ t → 0 < length xs → term_of (term.Product b xs) ≡ product_of (term_of t) (factors_of (map factor_of xs))
 made_product b t xs e h = ap term_of (sym (rolls-Product b xs)) ∙ fold-roll-Term TermTree AddendTree FactorTree term_step addend_step factor_step (layer.Term-F.Product b xs) ∙ ap (λ (u : Term). tree.Product (term_of u) (factors_of (map factor_of xs))) e ∙ products (term_of t) xs h
 
-pub none_summed : (t : TermTree) (xs : List Addend) → length xs ≡ 0 → t ≡ summed t (addends_of (map addend_of xs))
+pub none_summed : (t : TermTree) (xs : List Addend) → length xs ≡ 0 → t ≡ sum_of t (addends_of (map addend_of xs))
 none_summed t [] h = refl
 none_summed t (x ∷ xs) h = absurd (omega arith)
 
-pub none_multiplied : (t : TermTree) (xs : List Factor) → length xs ≡ 0 → t ≡ multiplied t (factors_of (map factor_of xs))
+pub none_multiplied : (t : TermTree) (xs : List Factor) → length xs ≡ 0 → t ≡ product_of t (factors_of (map factor_of xs))
 none_multiplied t [] h = refl
 none_multiplied t (x ∷ xs) h = absurd (omega arith)
 

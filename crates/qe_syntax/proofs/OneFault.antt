@@ -3,18 +3,18 @@ use Rattle.std.proofs.Common.{◌≡◌, List, [], ◌∷◌, ◌++◌, Some, re
 use Rattle.qe_token.specs.declared.token.Located.{Located}
 use Rattle.qe_syntax.specs.declared.fault.TextFault.{TextFault}
 use Rattle.qe_syntax.specs.declared.fault.TextFault.TheVariants.{Syntax, Wide, Exponent, TooDeep, TooMany}
-use Rattle.qe_syntax.specs.Grammar.{Mark, input, texts}
-use Rattle.qe_syntax.specs.Faults.{Tok, value_fault, counted, IsFaultAt, bare, head, IsFirstFault}
-use Rattle.qe_syntax.proofs.Spelling.{texts-append}
+use Rattle.qe_syntax.specs.Grammar.{Occurrence, input, tokens_of}
+use Rattle.qe_syntax.specs.Faults.{Tok, passed_limit, counted, IsFaultAt, bare_tokens, head, IsFirstFault}
+use Rattle.qe_syntax.proofs.Spelling.{tokens_of-append}
 use Rattle.qe_syntax.proofs.First.{Agree, agree_inputs, HasMark}
 
-agree_both : (ms ms' more more' : List Mark) (m m' : Mark) → Agree (ms ++ m ∷ more) (ms' ++ m' ∷ more') → texts ms ≡ texts ms' → m.token ≡ m'.token → (ms ≡ ms') × (m ≡ m')
+agree_both : (ms ms' more more' : List Occurrence) (m m' : Occurrence) → Agree (ms ++ m ∷ more) (ms' ++ m' ∷ more') → tokens_of ms ≡ tokens_of ms' → m.token ≡ m'.token → (ms ≡ ms') × (m ≡ m')
 agree_both [] [] more more' m m' g e h = (refl, (g h).0)
 agree_both [] (y ∷ ms') more more' m m' g e h = absurd cc
 agree_both (x ∷ ms) [] more more' m m' g e h = absurd cc
 agree_both (x ∷ ms) (y ∷ ms') more more' m m' g e h =
     let f : x.token ≡ y.token = cc in
-    let i : texts ms ≡ texts ms' = cc in
+    let i : tokens_of ms ≡ tokens_of ms' = cc in
     let r = agree_both ms ms' more more' m m' (g f).1 i h in
     let j : x ≡ y = (g f).0 in
     let k : ms ≡ ms' = r.0 in
@@ -22,12 +22,12 @@ agree_both (x ∷ ms) (y ∷ ms') more more' m m' g e h =
 
 one_value : (before : List Tok) (t : Tok) (f g : TextFault) → HasMark before t f → HasMark before t g → f ≡ g
 one_value before t f g a b =
-    let ag : Agree (a.1 ++ a.2 ∷ a.3) (b.1 ++ b.2 ∷ b.3) = subst (λ (x : List Mark). Agree x (b.1 ++ b.2 ∷ b.3)) a.4 (subst (λ (x : List Mark). Agree (input a.0) x) b.4 (agree_inputs a.0 b.0)) in
+    let ag : Agree (a.1 ++ a.2 ∷ a.3) (b.1 ++ b.2 ∷ b.3) = subst (λ (x : List Occurrence). Agree x (b.1 ++ b.2 ∷ b.3)) a.4 (subst (λ (x : List Occurrence). Agree (input a.0) x) b.4 (agree_inputs a.0 b.0)) in
     let r = agree_both a.1 b.1 a.3 b.3 a.2 b.2 ag (a.5 ∙ sym b.5) (a.6 ∙ sym b.6) in
-    let e : Some f ≡ Some g = sym a.7 ∙ ap (λ (x : List Mark). value_fault (counted 0 x) a.2) r.0 ∙ ap (value_fault (counted 0 b.1)) r.1 ∙ b.7 in cc
+    let e : Some f ≡ Some g = sym a.7 ∙ ap (λ (x : List Occurrence). passed_limit (counted 0 x) a.2) r.0 ∙ ap (passed_limit (counted 0 b.1)) r.1 ∙ b.7 in cc
 
 no_syntax : (before : List Tok) (t : Tok) (f : TextFault) → IsFaultAt before t Syntax → HasMark before t f → ⊥
-no_syntax before t f s a = s a.0 (texts a.3) (ap texts a.4 ∙ texts-append a.1 (a.2 ∷ a.3) ∙ ap (λ (x : List Tok). x ++ a.2.token ∷ texts a.3) a.5 ∙ ap (λ (x : Tok). before ++ x ∷ texts a.3) a.6)
+no_syntax before t f s a = s a.0 (tokens_of a.3) (ap tokens_of a.4 ∙ tokens_of-append a.1 (a.2 ∷ a.3) ∙ ap (λ (x : List Tok). x ++ a.2.token ∷ tokens_of a.3) a.5 ∙ ap (λ (x : Tok). before ++ x ∷ tokens_of a.3) a.6)
 
 -- a fault is a syntax fault, or that of a mark
 kind : (before : List Tok) (t : Tok) (f : TextFault) → IsFaultAt before t f → ((f ≡ Syntax) × IsFaultAt before t Syntax) ⊎ HasMark before t f
@@ -64,12 +64,12 @@ pub one_fault : (tokens before after before' after' : List Located) (f g : TextF
 one_fault tokens before after before' after' f g a b = elim (meet before after before' after' (sym a.stands ∙ b.stands)) [
   | inl e ↦ (
     e,
-    same_fault (bare before') (head after') f g
-        (subst (λ (x : Tok). IsFaultAt (bare before') x f) (heads e) (subst (λ (x : List Located). IsFaultAt (bare x) (head after) f) e a.here)) b.here,
+    same_fault (bare_tokens before') (head after') f g
+        (subst (λ (x : Tok). IsFaultAt (bare_tokens before') x f) (heads e) (subst (λ (x : List Located). IsFaultAt (bare_tokens x) (head after) f) e a.here)) b.here,
   )
   | inr i ↦ elim i [
-    | inl j ↦ absurd (a.none_earlier before' j.0 j.1 g j.2 (subst (λ (x : Tok). IsFaultAt (bare before') x g) j.3 b.here))
-    | inr j ↦ absurd (b.none_earlier before j.0 j.1 f j.2 (subst (λ (x : Tok). IsFaultAt (bare before) x f) j.3 a.here))
+    | inl j ↦ absurd (a.none_earlier before' j.0 j.1 g j.2 (subst (λ (x : Tok). IsFaultAt (bare_tokens before') x g) j.3 b.here))
+    | inr j ↦ absurd (b.none_earlier before j.0 j.1 f j.2 (subst (λ (x : Tok). IsFaultAt (bare_tokens before) x f) j.3 a.here))
   ]
 ]
   where

@@ -2,87 +2,87 @@
 use Rattle.std.proofs.Common.{◌≡◌, ℕ, ◌+◌, Bool, true, false, List, [], ◌∷◌, ◌++◌, Some, None, refl, sym, ap, subst, ◌∙◌}
 use Rattle.qe_token.specs.declared.token.Token.TheVariants as token
 use Rattle.qe_token.specs.declared.token.Name.{Name}
-use Rattle.qe_syntax.specs.Grammar.{Term, Sums, Product, Times, Signed, Power, Primary, Atom, sum, no_sum, sign, factors, no_times, times, negative, positive, base, raised, number, name, group, compare, exponent, literal, Mark, plain, opener, figure, word, sign_token, is_name, term, sums, product, timeses, signed, power, primary, comparison, texts}
+use Rattle.qe_syntax.specs.Grammar.{Term, Sums, Product, Times, Signed, Power, Primary, Atom, sum, no_sum, sign, factors, no_times, times, negative, positive, base, raised, number, name, group, compare, exponent, literal, Occurrence, plain, opener, figure, word, plus_or_minus, is_name, term, sums, product, timeses, signed, power, primary, comparison, tokens_of}
 use Rattle.qe_syntax.specs.Grammar.{Formula, Scope, Simple, Disj, Ors, Conj, Ands, Unary, quantified, open_formula, further, body, alone, joined, ors, no_or, or, ands, no_and, and, not, constant, bracket, atom, quantifier_token, arrow_token, constant_token, formula, scope, simple, disj, orses, conj, andses, unary}
 use Rattle.qe_syntax.specs.Faults.{Tok}
 use Rattle.qe_syntax.specs.Reading.{Stops, on_primary, on_power, on_product, on_term, on_conj, on_disj, on_simple}
 
-pub texts-append : (m n : List Mark) → texts (m ++ n) ≡ texts m ++ texts n
-texts-append [] n = refl
-texts-append (x ∷ m) n = ap (λ (ts : List Tok). x.token ∷ ts) (texts-append m n)
+pub tokens_of-append : (m n : List Occurrence) → tokens_of (m ++ n) ≡ tokens_of m ++ tokens_of n
+tokens_of-append [] n = refl
+tokens_of-append (x ∷ m) n = ap (λ (ts : List Tok). x.token ∷ ts) (tokens_of-append m n)
 
 -- marks for tokens
-abbrev pub marks : List Tok → List Mark
+abbrev pub marks : List Tok → List Occurrence
 marks [] = []
 marks (t ∷ ts) = record { token = t; opens = None; role = literal; begins = false } ∷ marks ts
 
-pub texts-marks : (ts : List Tok) → texts (marks ts) ≡ ts
-texts-marks [] = refl
-texts-marks (t ∷ ts) = ap (λ (us : List Tok). t ∷ us) (texts-marks ts)
+pub tokens_of-marks : (ts : List Tok) → tokens_of (marks ts) ≡ ts
+tokens_of-marks [] = refl
+tokens_of-marks (t ∷ ts) = ap (λ (us : List Tok). t ∷ us) (tokens_of-marks ts)
 
 mutual
-  pub term-append : (depth : ℕ) (b : Bool) (t : Term) (r q : List Mark) → term depth b t (r ++ q) ≡ term depth b t r ++ q
+  pub term-append : (depth : ℕ) (b : Bool) (t : Term) (r q : List Occurrence) → term depth b t (r ++ q) ≡ term depth b t r ++ q
   term-append depth b (sum p ps) r q = ap (product depth b p) (sums-append depth ps r q) ∙ product-append depth b p (sums depth ps r) q
 
-  pub sums-append : (depth : ℕ) (ps : Sums) (r q : List Mark) → sums depth ps (r ++ q) ≡ sums depth ps r ++ q
+  pub sums-append : (depth : ℕ) (ps : Sums) (r q : List Occurrence) → sums depth ps (r ++ q) ≡ sums depth ps r ++ q
   sums-append depth no_sum r q = refl
-  sums-append depth (sign at minus p ps) r q = ap (λ (ms : List Mark). plain (sign_token at minus) ∷ ms) (ap (product depth false p) (sums-append depth ps r q) ∙ product-append depth false p (sums depth ps r) q)
+  sums-append depth (sign at minus p ps) r q = ap (λ (ms : List Occurrence). plain (plus_or_minus at minus) ∷ ms) (ap (product depth false p) (sums-append depth ps r q) ∙ product-append depth false p (sums depth ps r) q)
 
-  pub product-append : (depth : ℕ) (b : Bool) (p : Product) (r q : List Mark) → product depth b p (r ++ q) ≡ product depth b p r ++ q
+  pub product-append : (depth : ℕ) (b : Bool) (p : Product) (r q : List Occurrence) → product depth b p (r ++ q) ≡ product depth b p r ++ q
   product-append depth b (factors s ss) r q = ap (signed depth b s) (timeses-append depth ss r q) ∙ signed-append depth b s (timeses depth ss r) q
 
-  pub timeses-append : (depth : ℕ) (ss : Times) (r q : List Mark) → timeses depth ss (r ++ q) ≡ timeses depth ss r ++ q
+  pub timeses-append : (depth : ℕ) (ss : Times) (r q : List Occurrence) → timeses depth ss (r ++ q) ≡ timeses depth ss r ++ q
   timeses-append depth no_times r q = refl
-  timeses-append depth (times at s ss) r q = ap (λ (ms : List Mark). plain (token.Star at) ∷ ms) (ap (signed depth false s) (timeses-append depth ss r q) ∙ signed-append depth false s (timeses depth ss r) q)
+  timeses-append depth (times at s ss) r q = ap (λ (ms : List Occurrence). plain (token.Star at) ∷ ms) (ap (signed depth false s) (timeses-append depth ss r q) ∙ signed-append depth false s (timeses depth ss r) q)
 
-  pub signed-append : (depth : ℕ) (b : Bool) (s : Signed) (r q : List Mark) → signed depth b s (r ++ q) ≡ signed depth b s r ++ q
-  signed-append depth b (negative at s) r q = ap (λ (ms : List Mark). opener (token.Minus at) depth b ∷ ms) (signed-append (depth + 1) false s r q)
+  pub signed-append : (depth : ℕ) (b : Bool) (s : Signed) (r q : List Occurrence) → signed depth b s (r ++ q) ≡ signed depth b s r ++ q
+  signed-append depth b (negative at s) r q = ap (λ (ms : List Occurrence). opener (token.Minus at) depth b ∷ ms) (signed-append (depth + 1) false s r q)
   signed-append depth b (positive p) r q = power-append depth b p r q
 
-  pub power-append : (depth : ℕ) (b : Bool) (p : Power) (r q : List Mark) → power depth b p (r ++ q) ≡ power depth b p r ++ q
+  pub power-append : (depth : ℕ) (b : Bool) (p : Power) (r q : List Occurrence) → power depth b p (r ++ q) ≡ power depth b p r ++ q
   power-append depth b (base a) r q = primary-append depth b a r q
   power-append depth b (raised a at n) r q = primary-append depth b a (plain (token.Caret at) ∷ figure n (exponent (is_name a)) false ∷ r) q
 
-  pub primary-append : (depth : ℕ) (b : Bool) (a : Primary) (r q : List Mark) → primary depth b a (r ++ q) ≡ primary depth b a r ++ q
+  pub primary-append : (depth : ℕ) (b : Bool) (a : Primary) (r q : List Occurrence) → primary depth b a (r ++ q) ≡ primary depth b a r ++ q
   primary-append depth b (number n) r q = refl
   primary-append depth b (name n) r q = refl
-  primary-append depth b (group t) r q = ap (λ (ms : List Mark). opener token.OpenParenthesis depth b ∷ ms) (term-append (depth + 1) false t (plain token.CloseParenthesis ∷ r) q)
+  primary-append depth b (group t) r q = ap (λ (ms : List Occurrence). opener token.OpenParenthesis depth b ∷ ms) (term-append (depth + 1) false t (plain token.CloseParenthesis ∷ r) q)
 
-pub comparison-append : (depth : ℕ) (a : Atom) (r q : List Mark) → comparison depth a (r ++ q) ≡ comparison depth a r ++ q
+pub comparison-append : (depth : ℕ) (a : Atom) (r q : List Occurrence) → comparison depth a (r ++ q) ≡ comparison depth a r ++ q
 comparison-append depth (compare t at k u) r q =
-    ap (λ (ms : List Mark). term depth true t (plain (token.Relation at k) ∷ ms)) (term-append depth false u r q) ∙ term-append depth true t (plain (token.Relation at k) ∷ term depth false u r) q
+    ap (λ (ms : List Occurrence). term depth true t (plain (token.Relation at k) ∷ ms)) (term-append depth false u r q) ∙ term-append depth true t (plain (token.Relation at k) ∷ term depth false u r) q
 
 mutual
-  pub formula-append : (depth : ℕ) (f : Formula) (r q : List Mark) → formula depth f (r ++ q) ≡ formula depth f r ++ q
-  formula-append depth (quantified all x s) r q = ap (λ (ms : List Mark). plain (quantifier_token all) ∷ opener (token.Name x) depth true ∷ ms) (scope-append (depth + 1) s r q)
+  pub formula-append : (depth : ℕ) (f : Formula) (r q : List Occurrence) → formula depth f (r ++ q) ≡ formula depth f r ++ q
+  formula-append depth (quantified all x s) r q = ap (λ (ms : List Occurrence). plain (quantifier_token all) ∷ opener (token.Name x) depth true ∷ ms) (scope-append (depth + 1) s r q)
   formula-append depth (open_formula s) r q = simple-append depth s r q
 
-  pub scope-append : (depth : ℕ) (s : Scope) (r q : List Mark) → scope depth s (r ++ q) ≡ scope depth s r ++ q
-  scope-append depth (further x s) r q = ap (λ (ms : List Mark). opener (token.Name x) depth true ∷ ms) (scope-append (depth + 1) s r q)
-  scope-append depth (body f) r q = ap (λ (ms : List Mark). plain token.Dot ∷ ms) (formula-append depth f r q)
+  pub scope-append : (depth : ℕ) (s : Scope) (r q : List Occurrence) → scope depth s (r ++ q) ≡ scope depth s r ++ q
+  scope-append depth (further x s) r q = ap (λ (ms : List Occurrence). opener (token.Name x) depth true ∷ ms) (scope-append (depth + 1) s r q)
+  scope-append depth (body f) r q = ap (λ (ms : List Occurrence). plain token.Dot ∷ ms) (formula-append depth f r q)
 
-  pub simple-append : (depth : ℕ) (s : Simple) (r q : List Mark) → simple depth s (r ++ q) ≡ simple depth s r ++ q
+  pub simple-append : (depth : ℕ) (s : Simple) (r q : List Occurrence) → simple depth s (r ++ q) ≡ simple depth s r ++ q
   simple-append depth (alone d) r q = disj-append depth d r q
-  simple-append depth (joined both d e) r q = ap (λ (ms : List Mark). disj depth d (plain (arrow_token both) ∷ ms)) (disj-append depth e r q) ∙ disj-append depth d (plain (arrow_token both) ∷ disj depth e r) q
+  simple-append depth (joined both d e) r q = ap (λ (ms : List Occurrence). disj depth d (plain (arrow_token both) ∷ ms)) (disj-append depth e r q) ∙ disj-append depth d (plain (arrow_token both) ∷ disj depth e r) q
 
-  pub disj-append : (depth : ℕ) (d : Disj) (r q : List Mark) → disj depth d (r ++ q) ≡ disj depth d r ++ q
+  pub disj-append : (depth : ℕ) (d : Disj) (r q : List Occurrence) → disj depth d (r ++ q) ≡ disj depth d r ++ q
   disj-append depth (ors c cs) r q = ap (conj depth c) (orses-append depth cs r q) ∙ conj-append depth c (orses depth cs r) q
 
-  pub orses-append : (depth : ℕ) (cs : Ors) (r q : List Mark) → orses depth cs (r ++ q) ≡ orses depth cs r ++ q
+  pub orses-append : (depth : ℕ) (cs : Ors) (r q : List Occurrence) → orses depth cs (r ++ q) ≡ orses depth cs r ++ q
   orses-append depth no_or r q = refl
-  orses-append depth (or c cs) r q = ap (λ (ms : List Mark). plain token.Or ∷ ms) (ap (conj depth c) (orses-append depth cs r q) ∙ conj-append depth c (orses depth cs r) q)
+  orses-append depth (or c cs) r q = ap (λ (ms : List Occurrence). plain token.Or ∷ ms) (ap (conj depth c) (orses-append depth cs r q) ∙ conj-append depth c (orses depth cs r) q)
 
-  pub conj-append : (depth : ℕ) (c : Conj) (r q : List Mark) → conj depth c (r ++ q) ≡ conj depth c r ++ q
+  pub conj-append : (depth : ℕ) (c : Conj) (r q : List Occurrence) → conj depth c (r ++ q) ≡ conj depth c r ++ q
   conj-append depth (ands u us) r q = ap (unary depth u) (andses-append depth us r q) ∙ unary-append depth u (andses depth us r) q
 
-  pub andses-append : (depth : ℕ) (us : Ands) (r q : List Mark) → andses depth us (r ++ q) ≡ andses depth us r ++ q
+  pub andses-append : (depth : ℕ) (us : Ands) (r q : List Occurrence) → andses depth us (r ++ q) ≡ andses depth us r ++ q
   andses-append depth no_and r q = refl
-  andses-append depth (and u us) r q = ap (λ (ms : List Mark). plain token.And ∷ ms) (ap (unary depth u) (andses-append depth us r q) ∙ unary-append depth u (andses depth us r) q)
+  andses-append depth (and u us) r q = ap (λ (ms : List Occurrence). plain token.And ∷ ms) (ap (unary depth u) (andses-append depth us r q) ∙ unary-append depth u (andses depth us r) q)
 
-  pub unary-append : (depth : ℕ) (u : Unary) (r q : List Mark) → unary depth u (r ++ q) ≡ unary depth u r ++ q
-  unary-append depth (not u) r q = ap (λ (ms : List Mark). opener token.Not depth false ∷ ms) (unary-append (depth + 1) u r q)
+  pub unary-append : (depth : ℕ) (u : Unary) (r q : List Occurrence) → unary depth u (r ++ q) ≡ unary depth u r ++ q
+  unary-append depth (not u) r q = ap (λ (ms : List Occurrence). opener token.Not depth false ∷ ms) (unary-append (depth + 1) u r q)
   unary-append depth (constant value) r q = refl
-  unary-append depth (bracket f) r q = ap (λ (ms : List Mark). opener token.OpenBracket depth false ∷ ms) (formula-append (depth + 1) f (plain token.CloseBracket ∷ r) q)
+  unary-append depth (bracket f) r q = ap (λ (ms : List Occurrence). opener token.OpenBracket depth false ∷ ms) (formula-append (depth + 1) f (plain token.CloseBracket ∷ r) q)
   unary-append depth (atom a) r q = comparison-append depth a r q
 
 -- ---- what follows
@@ -113,11 +113,11 @@ pub weaker : (on on' : Tok → Bool) → ((t : Tok) → on' t ≡ false → on t
 weaker on on' w [] s = s
 weaker on on' w (t ∷ ts) s = w t s
 
-pub sign_stops : (at : ℕ) (minus : Bool) → on_product (Some (sign_token at minus)) ≡ false
+pub sign_stops : (at : ℕ) (minus : Bool) → on_product (Some (plus_or_minus at minus)) ≡ false
 sign_stops at true = refl
 sign_stops at false = refl
 
-pub sign_goes : (at : ℕ) (minus : Bool) → on_term (Some (sign_token at minus)) ≡ true
+pub sign_goes : (at : ℕ) (minus : Bool) → on_term (Some (plus_or_minus at minus)) ≡ true
 sign_goes at true = refl
 sign_goes at false = refl
 
@@ -129,7 +129,7 @@ pub arrow_goes : (both : Bool) → on_simple (Some (arrow_token both)) ≡ true
 arrow_goes true = refl
 arrow_goes false = refl
 
-pub one_sign : (p q : ℕ) (m n : Bool) → Some (sign_token p m) ≡ Some (sign_token q n) → plain (sign_token p m) ≡ plain (sign_token q n) × (p ≡ q) × (m ≡ n)
+pub one_sign : (p q : ℕ) (m n : Bool) → Some (plus_or_minus p m) ≡ Some (plus_or_minus q n) → plain (plus_or_minus p m) ≡ plain (plus_or_minus q n) × (p ≡ q) × (m ≡ n)
 one_sign p q true true e = let f : p ≡ q = cc in (ap (λ (i : ℕ). plain (token.Minus i)) f, f, refl)
 one_sign p q true false e = absurd cc
 one_sign p q false true e = absurd cc
@@ -153,20 +153,20 @@ one_constant true false e = absurd cc
 one_constant false true e = absurd cc
 one_constant false false e = refl
 
-pub sums_stop : (depth : ℕ) (ps : Sums) (r : List Mark) → Stops on_term (texts r) → Stops on_product (texts (sums depth ps r))
-sums_stop depth no_sum r s = weaker on_product on_term to_product (texts r) s
+pub sums_stop : (depth : ℕ) (ps : Sums) (r : List Occurrence) → Stops on_term (tokens_of r) → Stops on_product (tokens_of (sums depth ps r))
+sums_stop depth no_sum r s = weaker on_product on_term to_product (tokens_of r) s
 sums_stop depth (sign at minus p ps) r s = sign_stops at minus
 
-pub times_stop : (depth : ℕ) (ss : Times) (r : List Mark) → Stops on_product (texts r) → Stops on_power (texts (timeses depth ss r))
-times_stop depth no_times r s = weaker on_power on_product to_power (texts r) s
+pub times_stop : (depth : ℕ) (ss : Times) (r : List Occurrence) → Stops on_product (tokens_of r) → Stops on_power (tokens_of (timeses depth ss r))
+times_stop depth no_times r s = weaker on_power on_product to_power (tokens_of r) s
 times_stop depth (times at q ss) r s = refl
 
-pub andses_stop : (depth : ℕ) (us : Ands) (r : List Mark) → Stops on_conj (texts r) → Stops on_term (texts (andses depth us r))
-andses_stop depth no_and r s = weaker on_term on_conj to_term (texts r) s
+pub andses_stop : (depth : ℕ) (us : Ands) (r : List Occurrence) → Stops on_conj (tokens_of r) → Stops on_term (tokens_of (andses depth us r))
+andses_stop depth no_and r s = weaker on_term on_conj to_term (tokens_of r) s
 andses_stop depth (and u us) r s = refl
 
-pub orses_stop : (depth : ℕ) (cs : Ors) (r : List Mark) → Stops on_disj (texts r) → Stops on_conj (texts (orses depth cs r))
-orses_stop depth no_or r s = weaker on_conj on_disj to_conj (texts r) s
+pub orses_stop : (depth : ℕ) (cs : Ors) (r : List Occurrence) → Stops on_disj (tokens_of r) → Stops on_conj (tokens_of (orses depth cs r))
+orses_stop depth no_or r s = weaker on_conj on_disj to_conj (tokens_of r) s
 orses_stop depth (or c cs) r s = refl
 
 -- a token that goes on is not the first of what stops
@@ -193,18 +193,18 @@ starts_simple (Some token.OpenBracket) = true
 starts_simple t = starts_term t
 
 -- the first mark
-pub record Begins (starts : Tok → Bool) (ms : List Mark) : Type 0 where
-  pub mark : Mark
-  pub others : List Mark
+pub record Begins (starts : Tok → Bool) (ms : List Occurrence) : Type 0 where
+  pub mark : Occurrence
+  pub others : List Occurrence
   pub is : ms ≡ mark ∷ others
   pub starts_with : starts mark.token ≡ true
 
-pub primary_begins : (depth : ℕ) (b : Bool) (a : Primary) (r : List Mark) → Begins starts_primary (primary depth b a r)
+pub primary_begins : (depth : ℕ) (b : Bool) (a : Primary) (r : List Occurrence) → Begins starts_primary (primary depth b a r)
 primary_begins depth b (number n) r = record { mark = figure n literal b; others = r; is = refl; starts_with = refl }
 primary_begins depth b (name x) r = record { mark = word (token.Name x) b; others = r; is = refl; starts_with = refl }
 primary_begins depth b (group t) r = record { mark = opener token.OpenParenthesis depth b; others = term (depth + 1) false t (plain token.CloseParenthesis ∷ r); is = refl; starts_with = refl }
 
-pub power_begins : (depth : ℕ) (b : Bool) (p : Power) (r : List Mark) → Begins starts_primary (power depth b p r)
+pub power_begins : (depth : ℕ) (b : Bool) (p : Power) (r : List Occurrence) → Begins starts_primary (power depth b p r)
 power_begins depth b (base a) r = primary_begins depth b a r
 power_begins depth b (raised a at n) r = primary_begins depth b a _
 
@@ -212,17 +212,17 @@ from_primary : (t : Tok) → starts_primary t ≡ true → starts_term t ≡ tru
 from_primary (Some (token.Minus p)) h = refl
 from_primary t h = h
 
-pub signed_begins : (depth : ℕ) (b : Bool) (s : Signed) (r : List Mark) → Begins starts_term (signed depth b s r)
+pub signed_begins : (depth : ℕ) (b : Bool) (s : Signed) (r : List Occurrence) → Begins starts_term (signed depth b s r)
 signed_begins depth b (negative at s) r = record { mark = opener (token.Minus at) depth b; others = signed (depth + 1) false s r; is = refl; starts_with = refl }
 signed_begins depth b (positive p) r = let w = power_begins depth b p r in record { mark = w.mark; others = w.others; is = w.is; starts_with = from_primary w.mark.token w.starts_with }
 
-pub product_begins : (depth : ℕ) (b : Bool) (p : Product) (r : List Mark) → Begins starts_term (product depth b p r)
+pub product_begins : (depth : ℕ) (b : Bool) (p : Product) (r : List Occurrence) → Begins starts_term (product depth b p r)
 product_begins depth b (factors s ss) r = signed_begins depth b s _
 
-pub term_begins : (depth : ℕ) (b : Bool) (t : Term) (r : List Mark) → Begins starts_term (term depth b t r)
+pub term_begins : (depth : ℕ) (b : Bool) (t : Term) (r : List Occurrence) → Begins starts_term (term depth b t r)
 term_begins depth b (sum p ps) r = product_begins depth b p _
 
-pub comparison_begins : (depth : ℕ) (a : Atom) (r : List Mark) → Begins starts_term (comparison depth a r)
+pub comparison_begins : (depth : ℕ) (a : Atom) (r : List Occurrence) → Begins starts_term (comparison depth a r)
 comparison_begins depth (compare t at k u) r = term_begins depth true t _
 
 from_term : (t : Tok) → starts_term t ≡ true → starts_simple t ≡ true
@@ -236,60 +236,60 @@ constant_starts : (value : Bool) → starts_simple (Some (constant_token value))
 constant_starts true = refl
 constant_starts false = refl
 
-pub unary_begins : (depth : ℕ) (u : Unary) (r : List Mark) → Begins starts_simple (unary depth u r)
+pub unary_begins : (depth : ℕ) (u : Unary) (r : List Occurrence) → Begins starts_simple (unary depth u r)
 unary_begins depth (not u) r = record { mark = opener token.Not depth false; others = unary (depth + 1) u r; is = refl; starts_with = refl }
 unary_begins depth (constant value) r = record { mark = word (constant_token value) true; others = r; is = refl; starts_with = constant_starts value }
 unary_begins depth (bracket f) r = record { mark = opener token.OpenBracket depth false; others = formula (depth + 1) f (plain token.CloseBracket ∷ r); is = refl; starts_with = refl }
 unary_begins depth (atom a) r = let w = comparison_begins depth a r in record { mark = w.mark; others = w.others; is = w.is; starts_with = from_term w.mark.token w.starts_with }
 
-pub conj_begins : (depth : ℕ) (c : Conj) (r : List Mark) → Begins starts_simple (conj depth c r)
+pub conj_begins : (depth : ℕ) (c : Conj) (r : List Occurrence) → Begins starts_simple (conj depth c r)
 conj_begins depth (ands u us) r = unary_begins depth u _
 
-pub disj_begins : (depth : ℕ) (d : Disj) (r : List Mark) → Begins starts_simple (disj depth d r)
+pub disj_begins : (depth : ℕ) (d : Disj) (r : List Occurrence) → Begins starts_simple (disj depth d r)
 disj_begins depth (ors c cs) r = conj_begins depth c _
 
-pub simple_begins : (depth : ℕ) (s : Simple) (r : List Mark) → Begins starts_simple (simple depth s r)
+pub simple_begins : (depth : ℕ) (s : Simple) (r : List Occurrence) → Begins starts_simple (simple depth s r)
 simple_begins depth (alone d) r = disj_begins depth d r
 simple_begins depth (joined both d e) r = disj_begins depth d _
 
 -- A token that begins none of these is not its first.
-pub begins_else : (starts : Tok → Bool) (ms : List Mark) (t : Tok) (us : List Tok) → Begins starts ms → starts t ≡ false → texts ms ≡ t ∷ us → ⊥
+pub begins_else : (starts : Tok → Bool) (ms : List Occurrence) (t : Tok) (us : List Tok) → Begins starts ms → starts t ≡ false → tokens_of ms ≡ t ∷ us → ⊥
 begins_else starts ms t us w h e =
-    let f : w.mark.token ∷ texts w.others ≡ t ∷ us = sym (ap texts w.is) ∙ e in
+    let f : w.mark.token ∷ tokens_of w.others ≡ t ∷ us = sym (ap tokens_of w.is) ∙ e in
     let g : w.mark.token ≡ t = cc in
     let i : true ≡ false = sym w.starts_with ∙ ap starts g ∙ h in absurd cc
 
 -- A relation that holds of two lists if, where the first tokens are one, the first marks are one and it holds of the rest:
 -- it holds of what two derivations spell if, where the derivations are one, it holds of what follows.
-module _ (R : List Mark → List Mark → Type 0) (step : (x y : Mark) (m n : List Mark) → (x.token ≡ y.token → (x ≡ y) × R m n) → R (x ∷ m) (y ∷ n)) where
-  left_else : (starts : Tok → Bool) (x : Mark) (q ms : List Mark) → starts x.token ≡ false → Begins starts ms → R (x ∷ q) ms
-  left_else starts x q ms h w = subst (λ (z : List Mark). R (x ∷ q) z) (sym w.is) (step x w.mark q w.others (λ e. absurd (not_first starts x.token w.mark.token h w.starts_with e)))
+module _ (R : List Occurrence → List Occurrence → Type 0) (step : (x y : Occurrence) (m n : List Occurrence) → (x.token ≡ y.token → (x ≡ y) × R m n) → R (x ∷ m) (y ∷ n)) where
+  left_else : (starts : Tok → Bool) (x : Occurrence) (q ms : List Occurrence) → starts x.token ≡ false → Begins starts ms → R (x ∷ q) ms
+  left_else starts x q ms h w = subst (λ (z : List Occurrence). R (x ∷ q) z) (sym w.is) (step x w.mark q w.others (λ e. absurd (not_first starts x.token w.mark.token h w.starts_with e)))
 
-  right_else : (starts : Tok → Bool) (x : Mark) (q ms : List Mark) → starts x.token ≡ false → Begins starts ms → R ms (x ∷ q)
-  right_else starts x q ms h w = subst (λ (z : List Mark). R z (x ∷ q)) (sym w.is) (step w.mark x w.others q (λ e. absurd (not_first starts x.token w.mark.token h w.starts_with (sym e))))
+  right_else : (starts : Tok → Bool) (x : Occurrence) (q ms : List Occurrence) → starts x.token ≡ false → Begins starts ms → R ms (x ∷ q)
+  right_else starts x q ms h w = subst (λ (z : List Occurrence). R z (x ∷ q)) (sym w.is) (step w.mark x w.others q (λ e. absurd (not_first starts x.token w.mark.token h w.starts_with (sym e))))
 
   mutual
-    pub same_term : (depth : ℕ) (b : Bool) (s t : Term) (p q : List Mark) → Stops on_term (texts p) → Stops on_term (texts q) → (s ≡ t → R p q) → R (term depth b s p) (term depth b t q)
+    pub same_term : (depth : ℕ) (b : Bool) (s t : Term) (p q : List Occurrence) → Stops on_term (tokens_of p) → Stops on_term (tokens_of q) → (s ≡ t → R p q) → R (term depth b s p) (term depth b t q)
     same_term depth b (sum u us) (sum v vs) p q sp sq k =
         same_product depth b u v (sums depth us p) (sums depth vs q) (sums_stop depth us p sp) (sums_stop depth vs q sq) (λ e. same_sums depth us vs p q sp sq (λ f. k (cc)))
 
-    pub same_sums : (depth : ℕ) (us vs : Sums) (p q : List Mark) → Stops on_term (texts p) → Stops on_term (texts q) → (us ≡ vs → R p q) → R (sums depth us p) (sums depth vs q)
+    pub same_sums : (depth : ℕ) (us vs : Sums) (p q : List Occurrence) → Stops on_term (tokens_of p) → Stops on_term (tokens_of q) → (us ≡ vs → R p q) → R (sums depth us p) (sums depth vs q)
     same_sums depth no_sum no_sum p q sp sq k = k refl
     same_sums depth no_sum (sign a m v vs) [] q sp sq k = absurd sp
-    same_sums depth no_sum (sign a m v vs) (x ∷ p) q sp sq k = step x _ p _ (λ e. absurd (not_first on_term x.token (Some (sign_token a m)) sp (sign_goes a m) e))
+    same_sums depth no_sum (sign a m v vs) (x ∷ p) q sp sq k = step x _ p _ (λ e. absurd (not_first on_term x.token (Some (plus_or_minus a m)) sp (sign_goes a m) e))
     same_sums depth (sign a m u us) no_sum p [] sp sq k = absurd sq
-    same_sums depth (sign a m u us) no_sum p (y ∷ q) sp sq k = step _ y _ q (λ e. absurd (not_first on_term y.token (Some (sign_token a m)) sq (sign_goes a m) (sym e)))
+    same_sums depth (sign a m u us) no_sum p (y ∷ q) sp sq k = step _ y _ q (λ e. absurd (not_first on_term y.token (Some (plus_or_minus a m)) sq (sign_goes a m) (sym e)))
     same_sums depth (sign a m u us) (sign b n v vs) p q sp sq k =
         step _ _ _ _ (λ h. (
           (one_sign a b m n h).0,
           same_product depth false u v (sums depth us p) (sums depth vs q) (sums_stop depth us p sp) (sums_stop depth vs q sq) (λ e. same_sums depth us vs p q sp sq (λ f. let g : a ≡ b = (one_sign a b m n h).1 in let i : m ≡ n = (one_sign a b m n h).2 in k (cc))),
         ))
 
-    pub same_product : (depth : ℕ) (b : Bool) (s t : Product) (p q : List Mark) → Stops on_product (texts p) → Stops on_product (texts q) → (s ≡ t → R p q) → R (product depth b s p) (product depth b t q)
+    pub same_product : (depth : ℕ) (b : Bool) (s t : Product) (p q : List Occurrence) → Stops on_product (tokens_of p) → Stops on_product (tokens_of q) → (s ≡ t → R p q) → R (product depth b s p) (product depth b t q)
     same_product depth b (factors u us) (factors v vs) p q sp sq k =
         same_signed depth b u v (timeses depth us p) (timeses depth vs q) (times_stop depth us p sp) (times_stop depth vs q sq) (λ e. same_times depth us vs p q sp sq (λ f. k (cc)))
 
-    pub same_times : (depth : ℕ) (us vs : Times) (p q : List Mark) → Stops on_product (texts p) → Stops on_product (texts q) → (us ≡ vs → R p q) → R (timeses depth us p) (timeses depth vs q)
+    pub same_times : (depth : ℕ) (us vs : Times) (p q : List Occurrence) → Stops on_product (tokens_of p) → Stops on_product (tokens_of q) → (us ≡ vs → R p q) → R (timeses depth us p) (timeses depth vs q)
     same_times depth no_times no_times p q sp sq k = k refl
     same_times depth no_times (times a v vs) [] q sp sq k = absurd sp
     same_times depth no_times (times a v vs) (x ∷ p) q sp sq k = step x _ p _ (λ e. absurd (not_first on_product x.token (Some (token.Star a)) sp refl e))
@@ -302,13 +302,13 @@ module _ (R : List Mark → List Mark → Type 0) (step : (x y : Mark) (m n : Li
           same_signed depth false u v (timeses depth us p) (timeses depth vs q) (times_stop depth us p sp) (times_stop depth vs q sq) (λ e. same_times depth us vs p q sp sq (λ f. k (cc))),
         ))
 
-    pub same_signed : (depth : ℕ) (b : Bool) (s t : Signed) (p q : List Mark) → Stops on_power (texts p) → Stops on_power (texts q) → (s ≡ t → R p q) → R (signed depth b s p) (signed depth b t q)
+    pub same_signed : (depth : ℕ) (b : Bool) (s t : Signed) (p q : List Occurrence) → Stops on_power (tokens_of p) → Stops on_power (tokens_of q) → (s ≡ t → R p q) → R (signed depth b s p) (signed depth b t q)
     same_signed depth b (negative i u) (negative j v) p q sp sq k = step _ _ _ _ (λ h. let g : i ≡ j = cc in (ap (λ (a : ℕ). opener (token.Minus a) depth b) g, same_signed (depth + 1) false u v p q sp sq (λ e. k (cc))))
     same_signed depth b (negative i u) (positive v) p q sp sq k = left_else starts_primary _ _ _ refl (power_begins depth b v q)
     same_signed depth b (positive u) (negative j v) p q sp sq k = right_else starts_primary _ _ _ refl (power_begins depth b u p)
     same_signed depth b (positive u) (positive v) p q sp sq k = same_power depth b u v p q sp sq (λ e. k (ap positive e))
 
-    pub same_power : (depth : ℕ) (b : Bool) (s t : Power) (p q : List Mark) → Stops on_power (texts p) → Stops on_power (texts q) → (s ≡ t → R p q) → R (power depth b s p) (power depth b t q)
+    pub same_power : (depth : ℕ) (b : Bool) (s t : Power) (p q : List Occurrence) → Stops on_power (tokens_of p) → Stops on_power (tokens_of q) → (s ≡ t → R p q) → R (power depth b s p) (power depth b t q)
     same_power depth b (base a) (base c) p q sp sq k = same_primary depth b a c p q (λ e. k (ap base e))
     same_power depth b (base a) (raised c i n) [] q sp sq k = absurd sp
     same_power depth b (base a) (raised c i n) (x ∷ p) q sp sq k = same_primary depth b a c (x ∷ p) _ (λ e. step x _ p _ (λ e. absurd (not_first on_power x.token (Some (token.Caret i)) sp refl e)))
@@ -321,14 +321,14 @@ module _ (R : List Mark → List Mark → Type 0) (step : (x y : Mark) (m n : Li
           step _ _ _ _ (λ i'. let f : m ≡ n = cc in let g : is_name a ≡ is_name c = ap is_name e in (cc, k (cc))),
         )))
 
-    pub same_primary : (depth : ℕ) (b : Bool) (s t : Primary) (p q : List Mark) → (s ≡ t → R p q) → R (primary depth b s p) (primary depth b t q)
+    pub same_primary : (depth : ℕ) (b : Bool) (s t : Primary) (p q : List Occurrence) → (s ≡ t → R p q) → R (primary depth b s p) (primary depth b t q)
     same_primary depth b (number m) (number n) p q k = step _ _ _ _ (λ h. let f : m ≡ n = cc in (ap (λ (x : ℕ). figure x literal b) f, k (ap number f)))
     same_primary depth b (name m) (name n) p q k = step _ _ _ _ (λ h. let f : m ≡ n = cc in (ap (λ (x : Name). word (token.Name x) b) f, k (ap name f)))
     same_primary depth b (group s) (group t) p q k =
         step _ _ _ _ (λ h. (refl, same_term (depth + 1) false s t (plain token.CloseParenthesis ∷ p) (plain token.CloseParenthesis ∷ q) refl refl (λ e. step _ _ _ _ (λ h. (refl, k (ap group e))))))
     same_primary depth b s t p q k = step _ _ _ _ (λ h. absurd cc)
 
-  pub same_comparison : (depth : ℕ) (a b : Atom) (p q : List Mark) → Stops on_term (texts p) → Stops on_term (texts q) → (a ≡ b → R p q) → R (comparison depth a p) (comparison depth b q)
+  pub same_comparison : (depth : ℕ) (a b : Atom) (p q : List Occurrence) → Stops on_term (tokens_of p) → Stops on_term (tokens_of q) → (a ≡ b → R p q) → R (comparison depth a p) (comparison depth b q)
   same_comparison depth (compare s i k t) (compare u j l v) p q sp sq c =
       same_term depth true s u _ _ refl refl (λ e. step _ _ _ _ (λ h.
       let f : i ≡ j = cc in
@@ -338,7 +338,7 @@ module _ (R : List Mark → List Mark → Type 0) (step : (x y : Mark) (m n : Li
       )))
 
   mutual
-    pub same_formula : (depth : ℕ) (f g : Formula) (p q : List Mark) → Stops on_simple (texts p) → Stops on_simple (texts q) → (f ≡ g → R p q) → R (formula depth f p) (formula depth g q)
+    pub same_formula : (depth : ℕ) (f g : Formula) (p q : List Occurrence) → Stops on_simple (tokens_of p) → Stops on_simple (tokens_of q) → (f ≡ g → R p q) → R (formula depth f p) (formula depth g q)
     same_formula depth (quantified a x s) (quantified b y t) p q sp sq k =
         step _ _ _ _ (λ h.
         let g : a ≡ b = one_quantifier a b h in (
@@ -351,13 +351,13 @@ module _ (R : List Mark → List Mark → Type 0) (step : (x y : Mark) (m n : Li
     same_formula depth (open_formula s) (quantified false y t) p q sp sq k = right_else starts_simple _ _ _ refl (simple_begins depth s p)
     same_formula depth (open_formula s) (open_formula t) p q sp sq k = same_simple depth s t p q sp sq (λ e. k (ap open_formula e))
 
-    pub same_scope : (depth : ℕ) (s t : Scope) (p q : List Mark) → Stops on_simple (texts p) → Stops on_simple (texts q) → (s ≡ t → R p q) → R (scope depth s p) (scope depth t q)
+    pub same_scope : (depth : ℕ) (s t : Scope) (p q : List Occurrence) → Stops on_simple (tokens_of p) → Stops on_simple (tokens_of q) → (s ≡ t → R p q) → R (scope depth s p) (scope depth t q)
     same_scope depth (further x s) (further y t) p q sp sq k = step _ _ _ _ (λ i. let f : x ≡ y = cc in (ap (λ (o : Name). opener (token.Name o) depth true) f, same_scope (depth + 1) s t p q sp sq (λ e. k (cc))))
     same_scope depth (body f) (body g) p q sp sq k = step _ _ _ _ (λ h. (refl, same_formula depth f g p q sp sq (λ e. k (ap body e))))
     same_scope depth s t p q sp sq k = step _ _ _ _ (λ h. absurd cc)
 
-    pub same_simple : (depth : ℕ) (s t : Simple) (p q : List Mark) → Stops on_simple (texts p) → Stops on_simple (texts q) → (s ≡ t → R p q) → R (simple depth s p) (simple depth t q)
-    same_simple depth (alone d) (alone e) p q sp sq k = same_disj depth d e p q (weaker on_disj on_simple to_disj (texts p) sp) (weaker on_disj on_simple to_disj (texts q) sq) (λ e. k (ap alone e))
+    pub same_simple : (depth : ℕ) (s t : Simple) (p q : List Occurrence) → Stops on_simple (tokens_of p) → Stops on_simple (tokens_of q) → (s ≡ t → R p q) → R (simple depth s p) (simple depth t q)
+    same_simple depth (alone d) (alone e) p q sp sq k = same_disj depth d e p q (weaker on_disj on_simple to_disj (tokens_of p) sp) (weaker on_disj on_simple to_disj (tokens_of q) sq) (λ e. k (ap alone e))
     same_simple depth (alone d) (joined a e f) [] q sp sq k = absurd sp
     same_simple depth (alone d) (joined a e f) (x ∷ p) q sp sq k = same_disj depth d e (x ∷ p) _ (to_disj x.token sp) (arrow_stops a) (λ g. step x _ p _ (λ h. absurd (not_first on_simple x.token (Some (arrow_token a)) sp (arrow_goes a) h)))
     same_simple depth (joined a d e) (alone f) p [] sp sq k = absurd sq
@@ -366,14 +366,14 @@ module _ (R : List Mark → List Mark → Type 0) (step : (x y : Mark) (m n : Li
         same_disj depth d f _ _ (arrow_stops a) (arrow_stops b) (λ h. step _ _ _ _ (λ i.
         let j : a ≡ b = one_arrow a b i in (
           ap (λ (o : Bool). plain (arrow_token o)) j,
-          same_disj depth e g p q (weaker on_disj on_simple to_disj (texts p) sp) (weaker on_disj on_simple to_disj (texts q) sq) (λ l. k (cc)),
+          same_disj depth e g p q (weaker on_disj on_simple to_disj (tokens_of p) sp) (weaker on_disj on_simple to_disj (tokens_of q) sq) (λ l. k (cc)),
         )))
 
-    pub same_disj : (depth : ℕ) (d e : Disj) (p q : List Mark) → Stops on_disj (texts p) → Stops on_disj (texts q) → (d ≡ e → R p q) → R (disj depth d p) (disj depth e q)
+    pub same_disj : (depth : ℕ) (d e : Disj) (p q : List Occurrence) → Stops on_disj (tokens_of p) → Stops on_disj (tokens_of q) → (d ≡ e → R p q) → R (disj depth d p) (disj depth e q)
     same_disj depth (ors c cs) (ors d ds) p q sp sq k =
         same_conj depth c d (orses depth cs p) (orses depth ds q) (orses_stop depth cs p sp) (orses_stop depth ds q sq) (λ e. same_orses depth cs ds p q sp sq (λ f. k (cc)))
 
-    pub same_orses : (depth : ℕ) (cs ds : Ors) (p q : List Mark) → Stops on_disj (texts p) → Stops on_disj (texts q) → (cs ≡ ds → R p q) → R (orses depth cs p) (orses depth ds q)
+    pub same_orses : (depth : ℕ) (cs ds : Ors) (p q : List Occurrence) → Stops on_disj (tokens_of p) → Stops on_disj (tokens_of q) → (cs ≡ ds → R p q) → R (orses depth cs p) (orses depth ds q)
     same_orses depth no_or no_or p q sp sq k = k refl
     same_orses depth no_or (or d ds) [] q sp sq k = absurd sp
     same_orses depth no_or (or d ds) (x ∷ p) q sp sq k = step x _ p _ (λ e. absurd (not_first on_disj x.token (Some token.Or) sp refl e))
@@ -382,11 +382,11 @@ module _ (R : List Mark → List Mark → Type 0) (step : (x y : Mark) (m n : Li
     same_orses depth (or c cs) (or d ds) p q sp sq k =
         step _ _ _ _ (λ h. (refl, same_conj depth c d (orses depth cs p) (orses depth ds q) (orses_stop depth cs p sp) (orses_stop depth ds q sq) (λ e. same_orses depth cs ds p q sp sq (λ f. k (cc)))))
 
-    pub same_conj : (depth : ℕ) (c d : Conj) (p q : List Mark) → Stops on_conj (texts p) → Stops on_conj (texts q) → (c ≡ d → R p q) → R (conj depth c p) (conj depth d q)
+    pub same_conj : (depth : ℕ) (c d : Conj) (p q : List Occurrence) → Stops on_conj (tokens_of p) → Stops on_conj (tokens_of q) → (c ≡ d → R p q) → R (conj depth c p) (conj depth d q)
     same_conj depth (ands u us) (ands v vs) p q sp sq k =
         same_unary depth u v (andses depth us p) (andses depth vs q) (andses_stop depth us p sp) (andses_stop depth vs q sq) (λ e. same_andses depth us vs p q sp sq (λ f. k (cc)))
 
-    pub same_andses : (depth : ℕ) (us vs : Ands) (p q : List Mark) → Stops on_conj (texts p) → Stops on_conj (texts q) → (us ≡ vs → R p q) → R (andses depth us p) (andses depth vs q)
+    pub same_andses : (depth : ℕ) (us vs : Ands) (p q : List Occurrence) → Stops on_conj (tokens_of p) → Stops on_conj (tokens_of q) → (us ≡ vs → R p q) → R (andses depth us p) (andses depth vs q)
     same_andses depth no_and no_and p q sp sq k = k refl
     same_andses depth no_and (and v vs) [] q sp sq k = absurd sp
     same_andses depth no_and (and v vs) (x ∷ p) q sp sq k = step x _ p _ (λ e. absurd (not_first on_conj x.token (Some token.And) sp refl e))
@@ -395,7 +395,7 @@ module _ (R : List Mark → List Mark → Type 0) (step : (x y : Mark) (m n : Li
     same_andses depth (and u us) (and v vs) p q sp sq k =
         step _ _ _ _ (λ h. (refl, same_unary depth u v (andses depth us p) (andses depth vs q) (andses_stop depth us p sp) (andses_stop depth vs q sq) (λ e. same_andses depth us vs p q sp sq (λ f. k (cc)))))
 
-    pub same_unary : (depth : ℕ) (u v : Unary) (p q : List Mark) → Stops on_term (texts p) → Stops on_term (texts q) → (u ≡ v → R p q) → R (unary depth u p) (unary depth v q)
+    pub same_unary : (depth : ℕ) (u v : Unary) (p q : List Occurrence) → Stops on_term (tokens_of p) → Stops on_term (tokens_of q) → (u ≡ v → R p q) → R (unary depth u p) (unary depth v q)
     same_unary depth (not u) (not v) p q sp sq k = step _ _ _ _ (λ h. (refl, same_unary (depth + 1) u v p q sp sq (λ e. k (ap not e))))
     same_unary depth (constant a) (constant b) p q sp sq k = step _ _ _ _ (λ h. let g : a ≡ b = one_constant a b h in (ap (λ (o : Bool). word (constant_token o) true) g, k (ap constant g)))
     same_unary depth (bracket f) (bracket g) p q sp sq k =
@@ -415,24 +415,24 @@ module _ (R : List Mark → List Mark → Type 0) (step : (x y : Mark) (m n : Li
     same_unary depth u (constant false) p q sp sq k = step _ _ _ _ (λ h. absurd cc)
     same_unary depth u v p q sp sq k = step _ _ _ _ (λ h. absurd cc)
 
-abbrev tokens_tell : (Q : Type 0) → List Mark → List Mark → Type 0
-tokens_tell Q m n = texts m ≡ texts n → Q
+abbrev tokens_tell : (Q : Type 0) → List Occurrence → List Occurrence → Type 0
+tokens_tell Q m n = tokens_of m ≡ tokens_of n → Q
 
-tell : (Q : Type 0) (x y : Mark) (m n : List Mark) → (x.token ≡ y.token → (x ≡ y) × tokens_tell Q m n) → tokens_tell Q (x ∷ m) (y ∷ n)
+tell : (Q : Type 0) (x y : Occurrence) (m n : List Occurrence) → (x.token ≡ y.token → (x ≡ y) × tokens_tell Q m n) → tokens_tell Q (x ∷ m) (y ∷ n)
 tell Q x y m n f h =
     let e : x.token ≡ y.token = cc in
-    let g : texts m ≡ texts n = cc in (f e).1 g
+    let g : tokens_of m ≡ tokens_of n = cc in (f e).1 g
 
 -- A part, and what follows it, are told by the tokens.
-abbrev pub IsOne : {A : Type 0} → (A → List Mark → List Mark) → (Tok → Bool) → Type 0
-IsOne {A = A} spell on = (a b : A) (p : List Mark) (ts : List Tok) → Stops on (texts p) → Stops on ts → texts (spell a p) ≡ texts (spell b []) ++ ts → (a ≡ b) × (texts p ≡ ts)
+abbrev pub IsOne : {A : Type 0} → (A → List Occurrence → List Occurrence) → (Tok → Bool) → Type 0
+IsOne {A = A} spell on = (a b : A) (p : List Occurrence) (ts : List Tok) → Stops on (tokens_of p) → Stops on ts → tokens_of (spell a p) ≡ tokens_of (spell b []) ++ ts → (a ≡ b) × (tokens_of p ≡ ts)
 
-module _ {A : Type 0} (spell : A → List Mark → List Mark) (on : Tok → Bool) (append : (a : A) (r q : List Mark) → spell a (r ++ q) ≡ spell a r ++ q) where
-  one_of : ((Q : Type 0) (a b : A) (p q : List Mark) → Stops on (texts p) → Stops on (texts q) → (a ≡ b → tokens_tell Q p q) → tokens_tell Q (spell a p) (spell b q)) → IsOne spell on
+module _ {A : Type 0} (spell : A → List Occurrence → List Occurrence) (on : Tok → Bool) (append : (a : A) (r q : List Occurrence) → spell a (r ++ q) ≡ spell a r ++ q) where
+  one_of : ((Q : Type 0) (a b : A) (p q : List Occurrence) → Stops on (tokens_of p) → Stops on (tokens_of q) → (a ≡ b → tokens_tell Q p q) → tokens_tell Q (spell a p) (spell b q)) → IsOne spell on
   one_of same a b p ts sp st h =
-      let e : texts (spell b (marks ts)) ≡ texts (spell b []) ++ ts = ap texts (append b [] (marks ts)) ∙ texts-append (spell b []) (marks ts) ∙ ap (λ (us : List Tok). texts (spell b []) ++ us) (texts-marks ts) in
-      let sq : Stops on (texts (marks ts)) = subst (λ us. Stops on us) (sym (texts-marks ts)) st in
-      same ((a ≡ b) × (texts p ≡ ts)) a b p (marks ts) sp sq (λ x y. (x, y ∙ texts-marks ts)) (h ∙ sym e)
+      let e : tokens_of (spell b (marks ts)) ≡ tokens_of (spell b []) ++ ts = ap tokens_of (append b [] (marks ts)) ∙ tokens_of-append (spell b []) (marks ts) ∙ ap (λ (us : List Tok). tokens_of (spell b []) ++ us) (tokens_of-marks ts) in
+      let sq : Stops on (tokens_of (marks ts)) = subst (λ us. Stops on us) (sym (tokens_of-marks ts)) st in
+      same ((a ≡ b) × (tokens_of p ≡ ts)) a b p (marks ts) sp sq (λ x y. (x, y ∙ tokens_of-marks ts)) (h ∙ sym e)
 
 pub one_term : (depth : ℕ) (b : Bool) → IsOne (term depth b) on_term
 one_term depth b = one_of (term depth b) on_term (term-append depth b) (λ Q. same_term (tokens_tell Q) (tell Q) depth b)

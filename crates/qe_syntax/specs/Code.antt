@@ -52,17 +52,17 @@ abbrev pub factor_of : Factor → FactorTree
 factor_of = fold-Factor TermTree AddendTree FactorTree term_step addend_step factor_step
 
 -- formulas in order, as a list and as the parts of a formula
-abbrev pub trees_of : List FormulaTree → FormulaTrees
-trees_of [] = no_more
-trees_of (t ∷ ts) = more t (trees_of ts)
+abbrev pub as_parts : List FormulaTree → FormulaTrees
+as_parts [] = no_more
+as_parts (t ∷ ts) = more t (as_parts ts)
 
 -- the tree of a formula whose parts are given by their trees
 abbrev pub formula_step : layer.Formula-F FormulaTree → FormulaTree
 formula_step layer.Formula-F.True = True
 formula_step layer.Formula-F.False = False
 formula_step (layer.Formula-F.Atom c) = Atom (term_of c.left) c.place c.relation (term_of c.right)
-formula_step (layer.Formula-F.And ts) = And (trees_of ts)
-formula_step (layer.Formula-F.Or ts) = Or (trees_of ts)
+formula_step (layer.Formula-F.And ts) = And (as_parts ts)
+formula_step (layer.Formula-F.Or ts) = Or (as_parts ts)
 formula_step (layer.Formula-F.Not t) = Not t.value
 formula_step (layer.Formula-F.Implies t u) = Implies t.value u.value
 formula_step (layer.Formula-F.Iff t u) = Iff t.value u.value
@@ -70,5 +70,5 @@ formula_step (layer.Formula-F.Ex x t) = Ex x t.value
 formula_step (layer.Formula-F.All x t) = All x t.value
 
 -- the tree of a formula
-abbrev pub formula_of : Formula → FormulaTree
-formula_of = fold-Formula FormulaTree formula_step
+abbrev pub tree_of : Formula → FormulaTree
+tree_of = fold-Formula FormulaTree formula_step

@@ -98,7 +98,7 @@ pub data Role : Type 0 where
   exponent : Bool → Role
 
 -- a token as it stands in a text
-pub record Mark : Type 0 where
+pub record Occurrence : Type 0 where
   -- None is the end of the text
   pub token : Option Token
   -- if the token opens a level, how many are open before it
@@ -107,23 +107,23 @@ pub record Mark : Type 0 where
   -- whether an atom, a constant or a bound name begins here
   pub begins : Bool
 
-abbrev pub plain : Token → Mark
+abbrev pub plain : Token → Occurrence
 plain t = record { token = Some t; opens = None; role = no_number; begins = false }
 
-abbrev pub opener : Token → ℕ → Bool → Mark
+abbrev pub opener : Token → ℕ → Bool → Occurrence
 opener t depth begins = record { token = Some t; opens = Some depth; role = no_number; begins = begins }
 
-abbrev pub figure : ℕ → Role → Bool → Mark
+abbrev pub figure : ℕ → Role → Bool → Occurrence
 figure n role begins = record { token = Some (token.Number n); opens = None; role = role; begins = begins }
 
-abbrev pub word : Token → Bool → Mark
+abbrev pub word : Token → Bool → Occurrence
 word t begins = record { token = Some t; opens = None; role = no_number; begins = begins }
 
-abbrev pub the_end : Mark
+abbrev pub the_end : Occurrence
 the_end = record { token = None; opens = None; role = no_number; begins = false }
 
-abbrev pub sign_token : ℕ → Bool → Token
-sign_token p minus = if minus then token.Minus p else token.Plus p
+abbrev pub plus_or_minus : ℕ → Bool → Token
+plus_or_minus p minus = if minus then token.Minus p else token.Plus p
 
 abbrev pub quantifier_token : Bool → Token
 quantifier_token all = if all then token.All else token.Ex
@@ -142,82 +142,82 @@ is_name (group t) = false
 -- What a derivation of a term spells where some levels are open, before what follows it;
 -- and whether an atom begins at its first token.
 abbrev mutual
-  pub term : ℕ → Bool → Term → List Mark → List Mark
+  pub term : ℕ → Bool → Term → List Occurrence → List Occurrence
   term depth begins (sum p ps) rest = product depth begins p (sums depth ps rest)
 
-  pub sums : ℕ → Sums → List Mark → List Mark
+  pub sums : ℕ → Sums → List Occurrence → List Occurrence
   sums depth no_sum rest = rest
-  sums depth (sign at minus p ps) rest = plain (sign_token at minus) ∷ product depth false p (sums depth ps rest)
+  sums depth (sign at minus p ps) rest = plain (plus_or_minus at minus) ∷ product depth false p (sums depth ps rest)
 
-  pub product : ℕ → Bool → Product → List Mark → List Mark
+  pub product : ℕ → Bool → Product → List Occurrence → List Occurrence
   product depth begins (factors s ss) rest = signed depth begins s (timeses depth ss rest)
 
-  pub timeses : ℕ → Times → List Mark → List Mark
+  pub timeses : ℕ → Times → List Occurrence → List Occurrence
   timeses depth no_times rest = rest
   timeses depth (times at s ss) rest = plain (token.Star at) ∷ signed depth false s (timeses depth ss rest)
 
-  pub signed : ℕ → Bool → Signed → List Mark → List Mark
+  pub signed : ℕ → Bool → Signed → List Occurrence → List Occurrence
   signed depth begins (negative at s) rest = opener (token.Minus at) depth begins ∷ signed (depth + 1) false s rest
   signed depth begins (positive p) rest = power depth begins p rest
 
-  pub power : ℕ → Bool → Power → List Mark → List Mark
+  pub power : ℕ → Bool → Power → List Occurrence → List Occurrence
   power depth begins (base b) rest = primary depth begins b rest
   power depth begins (raised b at n) rest = primary depth begins b (plain (token.Caret at) ∷ figure n (exponent (is_name b)) false ∷ rest)
 
-  pub primary : ℕ → Bool → Primary → List Mark → List Mark
+  pub primary : ℕ → Bool → Primary → List Occurrence → List Occurrence
   primary depth begins (number n) rest = figure n literal begins ∷ rest
   primary depth begins (name x) rest = word (token.Name x) begins ∷ rest
   primary depth begins (group t) rest = opener token.OpenParenthesis depth begins ∷ term (depth + 1) false t (plain token.CloseParenthesis ∷ rest)
 
-abbrev pub comparison : ℕ → Atom → List Mark → List Mark
+abbrev pub comparison : ℕ → Atom → List Occurrence → List Occurrence
 comparison depth (compare t at r u) rest = term depth true t (plain (token.Relation at r) ∷ term depth false u rest)
 
 -- The same of a formula.
 abbrev mutual
-  pub formula : ℕ → Formula → List Mark → List Mark
+  pub formula : ℕ → Formula → List Occurrence → List Occurrence
   formula depth (quantified all x s) rest = plain (quantifier_token all) ∷ opener (token.Name x) depth true ∷ scope (depth + 1) s rest
   formula depth (open_formula s) rest = simple depth s rest
 
-  pub scope : ℕ → Scope → List Mark → List Mark
+  pub scope : ℕ → Scope → List Occurrence → List Occurrence
   scope depth (further x s) rest = opener (token.Name x) depth true ∷ scope (depth + 1) s rest
   scope depth (body f) rest = plain token.Dot ∷ formula depth f rest
 
-  pub simple : ℕ → Simple → List Mark → List Mark
+  pub simple : ℕ → Simple → List Occurrence → List Occurrence
   simple depth (alone d) rest = disj depth d rest
   simple depth (joined both d e) rest = disj depth d (plain (arrow_token both) ∷ disj depth e rest)
 
-  pub disj : ℕ → Disj → List Mark → List Mark
+  pub disj : ℕ → Disj → List Occurrence → List Occurrence
   disj depth (ors c cs) rest = conj depth c (orses depth cs rest)
 
-  pub orses : ℕ → Ors → List Mark → List Mark
+  pub orses : ℕ → Ors → List Occurrence → List Occurrence
   orses depth no_or rest = rest
   orses depth (or c cs) rest = plain token.Or ∷ conj depth c (orses depth cs rest)
 
-  pub conj : ℕ → Conj → List Mark → List Mark
+  pub conj : ℕ → Conj → List Occurrence → List Occurrence
   conj depth (ands u us) rest = unary depth u (andses depth us rest)
 
-  pub andses : ℕ → Ands → List Mark → List Mark
+  pub andses : ℕ → Ands → List Occurrence → List Occurrence
   andses depth no_and rest = rest
   andses depth (and u us) rest = plain token.And ∷ unary depth u (andses depth us rest)
 
-  pub unary : ℕ → Unary → List Mark → List Mark
+  pub unary : ℕ → Unary → List Occurrence → List Occurrence
   unary depth (not u) rest = opener token.Not depth false ∷ unary (depth + 1) u rest
   unary depth (constant value) rest = word (constant_token value) true ∷ rest
   unary depth (bracket f) rest = opener token.OpenBracket depth false ∷ formula (depth + 1) f (plain token.CloseBracket ∷ rest)
   unary depth (atom a) rest = comparison depth a rest
 
 -- The input is one formula.
-abbrev pub input : Formula → List Mark
+abbrev pub input : Formula → List Occurrence
 input f = formula 0 f (the_end ∷ [])
 
 -- A single part stands alone.
-abbrev pub summed : TermTree → Addends → TermTree
-summed t no_addend = t
-summed t (addend at minus u us) = tree.Sum t (addend at minus u us)
+abbrev pub sum_of : TermTree → Addends → TermTree
+sum_of t no_addend = t
+sum_of t (addend at minus u us) = tree.Sum t (addend at minus u us)
 
-abbrev pub multiplied : TermTree → Factors → TermTree
-multiplied t no_factor = t
-multiplied t (factor at u us) = tree.Product t (factor at u us)
+abbrev pub product_of : TermTree → Factors → TermTree
+product_of t no_factor = t
+product_of t (factor at u us) = tree.Product t (factor at u us)
 
 abbrev pub conjoined : FormulaTree → FormulaTrees → FormulaTree
 conjoined f no_more = f
@@ -239,14 +239,14 @@ constant_tree value = if value then tree.True else tree.False
 -- What a derivation stands for. Parentheses and brackets make no node.
 abbrev mutual
   pub term_tree : Term → TermTree
-  term_tree (sum p ps) = summed (product_tree p) (sums_tree ps)
+  term_tree (sum p ps) = sum_of (product_tree p) (sums_tree ps)
 
   pub sums_tree : Sums → Addends
   sums_tree no_sum = no_addend
   sums_tree (sign at minus p ps) = addend at minus (product_tree p) (sums_tree ps)
 
   pub product_tree : Product → TermTree
-  product_tree (factors s ss) = multiplied (signed_tree s) (times_tree ss)
+  product_tree (factors s ss) = product_of (signed_tree s) (times_tree ss)
 
   pub times_tree : Times → Factors
   times_tree no_times = no_factor
@@ -303,11 +303,11 @@ abbrev mutual
   unary_tree (atom a) = atom_tree a
 
 -- the tokens alone
-abbrev pub texts : List Mark → List (Option Token)
-texts [] = []
-texts (m ∷ ms) = m.token ∷ texts ms
+abbrev pub tokens_of : List Occurrence → List (Option Token)
+tokens_of [] = []
+tokens_of (m ∷ ms) = m.token ∷ tokens_of ms
 
 -- tokens, and the end behind them
-abbrev pub ended : List Located → List (Option Token)
-ended [] = None ∷ []
-ended (l ∷ ls) = Some l.token ∷ ended ls
+abbrev pub with_end : List Located → List (Option Token)
+with_end [] = None ∷ []
+with_end (l ∷ ls) = Some l.token ∷ with_end ls

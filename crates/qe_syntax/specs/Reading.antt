@@ -2,19 +2,25 @@
 use Rattle.std.specs.Prelude.{◌≡◌, ℕ, ◌+◌, List, [], ◌∷◌, ◌++◌, Option, Some, None, Bool, true, false, Result, Ok, Err, nat_lt, nat_le, if◌then◌else◌}
 use Rattle.qe_token.specs.declared.token.Token.{Token}
 use Rattle.qe_token.specs.declared.token.Token.TheVariants as token
+use Rattle.qe_token.specs.declared.token.Located.{Located}
 use Rattle.qe_token.specs.declared.token.Name.{Name}
 use Rattle.qe_token.specs.declared.token.Relation.{Relation}
 use Rattle.qe_syntax.specs.declared.fault.TextFault.{TextFault}
 use Rattle.qe_syntax.specs.declared.fault.TextFault.TheVariants.{Syntax, Wide, Exponent, TooDeep, TooMany}
 use Rattle.qe_syntax.specs.declared.fault.Stop.{Stop}
 use Rattle.qe_syntax.specs.declared.fault.Stop.TheVariants as stop
-use Rattle.qe_syntax.specs.Grammar.{Mark, texts}
-use Rattle.qe_syntax.specs.Faults.{Tok, value_fault, counted}
+use Rattle.qe_syntax.specs.declared.formula.Parser.{Parser}
+use Rattle.qe_syntax.specs.declared.tree.Term.{Term}
+use Rattle.qe_syntax.specs.declared.tree.Formula.{Formula}
+use Rattle.qe_syntax.specs.Tree.{TermTree, FormulaTree}
+use Rattle.qe_syntax.specs.Code.{term_of, tree_of}
+use Rattle.qe_syntax.specs.Grammar.{Occurrence, tokens_of, with_end}
+use Rattle.qe_syntax.specs.Faults.{Tok, passed_limit, counted}
 
 -- no mark has a fault
-abbrev pub IsClean : ℕ → List Mark → Type 0
+abbrev pub IsClean : ℕ → List Occurrence → Type 0
 IsClean begun [] = Unit {0}
-IsClean begun (m ∷ ms) = (value_fault begun m ≡ None) × IsClean (counted begun (m ∷ [])) ms
+IsClean begun (m ∷ ms) = (passed_limit begun m ≡ None) × IsClean (counted begun (m ∷ [])) ms
 
 -- The tokens do not go on with what was read.
 abbrev pub Stops : (Tok → Bool) → List Tok → Type 0
@@ -22,41 +28,50 @@ Stops goes_on [] = ⊥
 Stops goes_on (t ∷ ts) = goes_on t ≡ false
 
 -- a part of the grammar: what it spells, and which tokens go on with it
-module _ {A : Type 0} (spell : A → List Mark → List Mark) (goes_on : Tok → Bool) where
+module _ {A : Type 0} (spell : A → List Occurrence → List Occurrence) (goes_on : Tok → Bool) where
   -- A derivation with this tree was read, without a fault.
   pub record IsRead {T : Type 0} (of : A → T) (value : T) (old new : List Tok) (begun begun' : ℕ) : Type 0 where
     pub found : A
     pub is : of found ≡ value
-    pub spelled : old ≡ texts (spell found []) ++ new
+    pub spelled : old ≡ tokens_of (spell found []) ++ new
     pub clean : IsClean begun (spell found [])
     pub count : counted begun (spell found []) ≡ begun'
     pub stops : Stops goes_on new
 
   -- No derivation goes on from these marks with the first of these tokens.
-  abbrev pub IsRefused : List Mark → List Tok → Type 0
+  abbrev pub IsRefused : List Occurrence → List Tok → Type 0
   IsRefused before [] = ⊥
-  IsRefused before (t ∷ ts) = (a : A) (rest : List Mark) (more : List Tok) → Stops goes_on (texts rest) → texts (spell a rest) ≡ texts before ++ t ∷ more → ⊥
+  IsRefused before (t ∷ ts) = (a : A) (rest : List Occurrence) (more : List Tok) → Stops goes_on (tokens_of rest) → tokens_of (spell a rest) ≡ tokens_of before ++ t ∷ more → ⊥
 
-  abbrev pub HasFault : TextFault → ℕ → List Mark → List Mark → List Tok → Type 0
+  abbrev pub HasFault : TextFault → ℕ → List Occurrence → List Occurrence → List Tok → Type 0
   HasFault Syntax begun before more new = IsRefused before new
   HasFault f begun before [] new = ⊥
   HasFault f begun before (m ∷ more) [] = ⊥
-  HasFault f begun before (m ∷ more) (t ∷ ts) = (m.token ≡ t) × (value_fault begun m ≡ Some f)
+  HasFault f begun before (m ∷ more) (t ∷ ts) = (m.token ≡ t) × (passed_limit begun m ≡ Some f)
 
   -- A derivation begins with what was read, without a fault; the fault is that of the next token.
   pub record IsStopped (f : TextFault) (old new : List Tok) (begun : ℕ) : Type 0 where
     pub found : A
-    pub before : List Mark
-    pub more : List Mark
+    pub before : List Occurrence
+    pub more : List Occurrence
     pub is : spell found [] ≡ before ++ more
-    pub spelled : old ≡ texts before ++ new
+    pub spelled : old ≡ tokens_of before ++ new
     pub clean : IsClean begun before
     pub fault : HasFault f (counted begun before) before more new
 
   abbrev pub Reads : {F T : Type 0} → (A → T) → (F → T) → Result F Stop → List Tok → List Tok → ℕ → ℕ → Type 0
   Reads of view (Ok f) old new begun begun' = IsRead of (view f) old new begun begun'
-  Reads of view (Err stop.Memory) old new begun begun' = Unit {0}
-  Reads of view (Err (stop.Bad f)) old new begun begun' = IsStopped f old new begun
+  Reads of view (Err stop.OutOfMemory) old new begun begun' = Unit {0}
+  Reads of view (Err (stop.Limit f)) old new begun begun' = IsStopped f old new begun
+
+  -- what a method on terms does: in a term nothing begins
+  abbrev pub ReadsTerm : (A → TermTree) → Result Term Stop → List Located → List Located → Type 0
+  ReadsTerm of result old new = Reads of term_of result (with_end old) (with_end new) 0 0
+
+  -- what a method on formulas does
+  abbrev pub ReadsFormula : (A → FormulaTree) → Result Formula Stop → Parser → Parser → Type 0
+  ReadsFormula of result old new =
+      Reads of tree_of result (with_end old.cursor) (with_end new.cursor) old.begun new.begun
 
 -- which tokens go on with a part
 abbrev pub on_primary : Tok → Bool
@@ -113,70 +128,70 @@ abbrev pub is_parenthesis : Tok → Bool
 is_parenthesis (Some token.OpenParenthesis) = true
 is_parenthesis t = false
 
-abbrev pub number_at : Tok → Option ℕ
-number_at (Some (token.Number n)) = Some n
-number_at t = None
+abbrev pub next_number : Tok → Option ℕ
+next_number (Some (token.Number n)) = Some n
+next_number t = None
 
-abbrev pub name_at : Tok → Option Name
-name_at (Some (token.Name x)) = Some x
-name_at t = None
+abbrev pub next_name : Tok → Option Name
+next_name (Some (token.Name x)) = Some x
+next_name t = None
 
-abbrev pub caret_at : Tok → Option ℕ
-caret_at (Some (token.Caret p)) = Some p
-caret_at t = None
+abbrev pub next_caret : Tok → Option ℕ
+next_caret (Some (token.Caret p)) = Some p
+next_caret t = None
 
-abbrev pub star_at : Tok → Option ℕ
-star_at (Some (token.Star p)) = Some p
-star_at t = None
+abbrev pub next_star : Tok → Option ℕ
+next_star (Some (token.Star p)) = Some p
+next_star t = None
 
-abbrev pub sign_at : Tok → Option (ℕ × Bool)
-sign_at (Some (token.Plus p)) = Some (p, false)
-sign_at (Some (token.Minus p)) = Some (p, true)
-sign_at t = None
+abbrev pub next_sign : Tok → Option (ℕ × Bool)
+next_sign (Some (token.Plus p)) = Some (p, false)
+next_sign (Some (token.Minus p)) = Some (p, true)
+next_sign t = None
 
-abbrev pub quantifier_at : Tok → Option Bool
-quantifier_at (Some token.Ex) = Some false
-quantifier_at (Some token.All) = Some true
-quantifier_at t = None
+abbrev pub next_quantifier : Tok → Option Bool
+next_quantifier (Some token.Ex) = Some false
+next_quantifier (Some token.All) = Some true
+next_quantifier t = None
 
-abbrev pub arrow_at : Tok → Option Bool
-arrow_at (Some token.Implies) = Some false
-arrow_at (Some token.Iff) = Some true
-arrow_at t = None
+abbrev pub next_arrow : Tok → Option Bool
+next_arrow (Some token.Implies) = Some false
+next_arrow (Some token.Iff) = Some true
+next_arrow t = None
 
-abbrev pub constant_at : Tok → Option Bool
-constant_at (Some token.False) = Some false
-constant_at (Some token.True) = Some true
-constant_at t = None
+abbrev pub next_constant : Tok → Option Bool
+next_constant (Some token.False) = Some false
+next_constant (Some token.True) = Some true
+next_constant t = None
 
 -- what the small steps do
 abbrev pub Takes : Token → Result (Unit {0}) Stop → List Tok → List Tok → Type 0
 Takes t (Ok u) old new = old ≡ Some t ∷ new
-Takes t (Err (stop.Bad Syntax)) old new = (new ≡ old) × ((ts : List Tok) → old ≡ Some t ∷ ts → ⊥)
+Takes t (Err (stop.Limit Syntax)) old new = (new ≡ old) × ((ts : List Tok) → old ≡ Some t ∷ ts → ⊥)
 Takes t (Err e) old new = ⊥
 
 -- an exponent, at most so great
 abbrev pub TakesExponent : ℕ → Result ℕ Stop → List Tok → List Tok → Type 0
 TakesExponent most (Ok n) old new = (old ≡ Some (token.Number n) ∷ new) × (nat_lt most n ≡ false)
-TakesExponent most (Err (stop.Bad Syntax)) old new = (new ≡ old) × ((n : ℕ) (ts : List Tok) → old ≡ Some (token.Number n) ∷ ts → ⊥)
-TakesExponent most (Err (stop.Bad Exponent)) old new = (new ≡ old) × (n : ℕ) × (ts : List Tok) × (old ≡ Some (token.Number n) ∷ ts) × (nat_lt most n ≡ true)
+TakesExponent most (Err (stop.Limit Syntax)) old new = (new ≡ old) × ((n : ℕ) (ts : List Tok) → old ≡ Some (token.Number n) ∷ ts → ⊥)
+TakesExponent most (Err (stop.Limit Exponent)) old new = (new ≡ old) × (n : ℕ) × (ts : List Tok) × (old ≡ Some (token.Number n) ∷ ts) × (nat_lt most n ≡ true)
 TakesExponent most (Err e) old new = ⊥
 
 abbrev pub TakesRelation : Result (ℕ × Relation) Stop → List Tok → List Tok → Type 0
 TakesRelation (Ok r) old new = old ≡ Some (token.Relation r.0 r.1) ∷ new
-TakesRelation (Err (stop.Bad Syntax)) old new = (new ≡ old) × ((p : ℕ) (r : Relation) (ts : List Tok) → old ≡ Some (token.Relation p r) ∷ ts → ⊥)
+TakesRelation (Err (stop.Limit Syntax)) old new = (new ≡ old) × ((p : ℕ) (r : Relation) (ts : List Tok) → old ≡ Some (token.Relation p r) ∷ ts → ⊥)
 TakesRelation (Err e) old new = ⊥
 
 -- A test that gives this fault where it is true.
 abbrev pub Tests : Bool → TextFault → Result (Unit {0}) Stop → Type 0
 Tests b f (Ok u) = b ≡ false
-Tests b f (Err stop.Memory) = ⊥
-Tests b f (Err (stop.Bad g)) = (b ≡ true) × (g ≡ f)
+Tests b f (Err stop.OutOfMemory) = ⊥
+Tests b f (Err (stop.Limit g)) = (b ≡ true) × (g ≡ f)
 
 -- the number as an exponent, if it is at most so great
 abbrev pub TestsExponent : ℕ → ℕ → Result ℕ Stop → Type 0
 TestsExponent most n (Ok k) = (k ≡ n) × (nat_lt most n ≡ false)
-TestsExponent most n (Err (stop.Bad Exponent)) = nat_lt most n ≡ true
+TestsExponent most n (Err (stop.Limit Exponent)) = nat_lt most n ≡ true
 TestsExponent most n (Err e) = ⊥
 
 -- the fault of a bound name, where so many levels are open and so many began
@@ -186,8 +201,8 @@ bound_fault depth begun = if nat_le 256 depth then Some TooDeep else if nat_le 6
 -- Takes a bound name.
 abbrev pub Binds : ℕ → Result (Unit {0}) Stop → Tok → List Tok → List Tok → ℕ → ℕ → Type 0
 Binds depth (Ok u) t old new begun begun' = (old ≡ t ∷ new) × (begun' ≡ begun + 1) × (bound_fault depth begun ≡ None)
-Binds depth (Err stop.Memory) t old new begun begun' = ⊥
-Binds depth (Err (stop.Bad f)) t old new begun begun' = (new ≡ old) × (bound_fault depth begun ≡ Some f)
+Binds depth (Err stop.OutOfMemory) t old new begun begun' = ⊥
+Binds depth (Err (stop.Limit f)) t old new begun begun' = (new ≡ old) × (bound_fault depth begun ≡ Some f)
 
 -- the fault of the first token of an atom, where no atom may begin
 abbrev pub fault_at_limit : Tok → ℕ → TextFault

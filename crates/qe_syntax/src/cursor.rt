@@ -1,13 +1,14 @@
-//! A place among the tokens of a text.
+//! The tokens of a text that are left.
 
 ghost use Rattle.std.specs.Prelude.{◌≡◌, ◌∷◌, ◌<◌, ◌≤◌, nat_le, nat_lt, length, IsSome};
-ghost use Rattle.qe_syntax.specs.Grammar.{ended};
+ghost use Rattle.qe_syntax.specs.Grammar.{with_end};
 ghost use Rattle.qe_syntax.specs.Faults.{head, most_exponent};
-ghost use Rattle.qe_syntax.specs.Reading.{Takes, TakesExponent, TakesRelation, Tests, TestsExponent, number_at, name_at, is_parenthesis, is_minus, caret_at, star_at, sign_at};
+ghost use Rattle.qe_syntax.specs.Reading.{Takes, TakesExponent, TakesRelation, Tests, TestsExponent, next_number, next_name, is_parenthesis, is_minus, next_caret, next_star, next_sign};
 ghost use Rattle.qe_syntax.specs.declared.fault.TextFault.TheVariants.{Wide, TooDeep};
 
 use crate::fault::{Stop, TextFault};
 use crate::{Located, Name, Relation, Token};
+use std::marker::Model;
 
 /// The levels that may be open at once.
 const DEEPEST: u32 = 256;
@@ -15,10 +16,19 @@ const DEEPEST: u32 = 256;
 /// The greatest number that is no exponent: `2^127 - 1`.
 const GREATEST: u128 = 170_141_183_460_469_231_731_687_303_715_884_105_727;
 
-/// The tokens that are left.
+/// The tokens that are left. Contracts see them as a list.
 #[derive(Drop)]
 pub struct Cursor<'a> {
-    pub rest: &'a [Located],
+    rest: &'a [Located],
+}
+
+impl<'a> Model for Cursor<'a> {
+    ghost use Rattle.std.specs.Prelude.{List};
+    ghost use Rattle.qe_token.specs.declared.token.Located.{Located};
+
+    ghost Value = { List Located };
+
+    ghost view = { λ cursor. cursor.rest.now };
 }
 
 /// Whether a number, not an exponent, is too great.
@@ -40,7 +50,7 @@ pub fn check_number(value: u128) -> Result<(), Stop>
     ensures { Tests (nat_lt 170141183460469231731687303715884105727 value) Wide result }
 {
     if is_wide(value) {
-        return Err(Stop::Bad(TextFault::Wide));
+        return Err(Stop::Limit(TextFault::Wide));
     }
     Ok(())
 }
@@ -50,7 +60,7 @@ pub fn check_level(depth: u32) -> Result<(), Stop>
     ensures { Tests (nat_le 256 depth) TooDeep result }
 {
     if is_full(depth) {
-        return Err(Stop::Bad(TextFault::TooDeep));
+        return Err(Stop::Limit(TextFault::TooDeep));
     }
     Ok(())
 }
@@ -66,15 +76,29 @@ fn check_exponent(most: u16, value: u128) -> Result<u16, Stop>
     ensures { TestsExponent most value result }
 {
     if value > most as u128 {
-        return Err(Stop::Bad(TextFault::Exponent));
+        return Err(Stop::Limit(TextFault::Exponent));
     }
     Ok(value as u16)
 }
 
 impl<'a> Cursor<'a> {
+    /// All tokens are left.
+    pub fn new(tokens: &'a [Located]) -> Cursor<'a>
+        ensures { result ≡ tokens.now }
+    {
+        Cursor { rest: tokens }
+    }
+
+    /// How many tokens are left.
+    pub fn len(&self) -> usize
+        ensures { result ≡ length self.now }
+    {
+        self.rest.len()
+    }
+
     /// The token that comes next.
     pub fn peek(&self) -> Option<Token>
-        ensures { result ≡ head self.now.rest.now }
+        ensures { result ≡ head self.now }
     {
         match self.rest {
             [] => None,
@@ -84,22 +108,22 @@ impl<'a> Cursor<'a> {
 
     /// Takes the token that comes next.
     pub fn advance(&mut self)
-        requires { IsSome (head self.old.rest.now) }
-        ensures rest { ended self.old.rest.now ≡ head self.old.rest.now ∷ ended self.new.rest.now }
-        ensures shorter { length self.new.rest.now < length self.old.rest.now }
+        requires { IsSome (head self.old) }
+        ensures rest { with_end self.old ≡ head self.old ∷ with_end self.new }
+        ensures shorter { length self.new < length self.old }
     {
         self.rest = &self.rest[1..];
     }
 
     /// Takes the token that comes next, if it is this one.
     pub fn expect(&mut self, token: Token) -> Result<(), Stop>
-        ensures { Takes token result (ended self.old.rest.now) (ended self.new.rest.now) }
+        ensures { Takes token result (with_end self.old) (with_end self.new) }
     {
         let Some(next) = self.peek() else {
-            return Err(Stop::Bad(TextFault::Syntax));
+            return Err(Stop::Limit(TextFault::Syntax));
         };
         if next != token {
-            return Err(Stop::Bad(TextFault::Syntax));
+            return Err(Stop::Limit(TextFault::Syntax));
         }
         self.advance();
         Ok(())
@@ -107,7 +131,7 @@ impl<'a> Cursor<'a> {
 
     /// Takes an exponent, if it is at most so great.
     pub fn exponent(&mut self, most: u16) -> Result<u16, Stop>
-        ensures { TakesExponent most result (ended self.old.rest.now) (ended self.new.rest.now) }
+        ensures { TakesExponent most result (with_end self.old) (with_end self.new) }
     {
         match self.peek() {
             Some(Token::Number(value)) => {
@@ -115,26 +139,26 @@ impl<'a> Cursor<'a> {
                 self.advance();
                 Ok(exponent)
             }
-            _ => Err(Stop::Bad(TextFault::Syntax)),
+            _ => Err(Stop::Limit(TextFault::Syntax)),
         }
     }
 
     /// Takes a relation: its offset, and which it is.
     pub fn relation(&mut self) -> Result<(u32, Relation), Stop>
-        ensures { TakesRelation result (ended self.old.rest.now) (ended self.new.rest.now) }
+        ensures { TakesRelation result (with_end self.old) (with_end self.new) }
     {
         match self.peek() {
             Some(Token::Relation(place, relation)) => {
                 self.advance();
                 Ok((place, relation))
             }
-            _ => Err(Stop::Bad(TextFault::Syntax)),
+            _ => Err(Stop::Limit(TextFault::Syntax)),
         }
     }
 
     /// The number that comes next, if one does.
     pub fn number(&self) -> Option<u128>
-        ensures { result ≡ number_at (head self.now.rest.now) }
+        ensures { result ≡ next_number (head self.now) }
     {
         match self.peek() {
             Some(Token::Number(value)) => Some(value),
@@ -144,7 +168,7 @@ impl<'a> Cursor<'a> {
 
     /// The name that comes next, if one does.
     pub fn name(&self) -> Option<Name>
-        ensures { result ≡ name_at (head self.now.rest.now) }
+        ensures { result ≡ next_name (head self.now) }
     {
         match self.peek() {
             Some(Token::Name(name)) => Some(name),
@@ -154,21 +178,21 @@ impl<'a> Cursor<'a> {
 
     /// Whether a `(` comes next.
     pub fn is_parenthesis(&self) -> bool
-        ensures { result ≡ is_parenthesis (head self.now.rest.now) }
+        ensures { result ≡ is_parenthesis (head self.now) }
     {
         matches!(self.peek(), Some(Token::OpenParenthesis))
     }
 
     /// Whether a `-` comes next.
     pub fn is_minus(&self) -> bool
-        ensures { result ≡ is_minus (head self.now.rest.now) }
+        ensures { result ≡ is_minus (head self.now) }
     {
         matches!(self.peek(), Some(Token::Minus(_)))
     }
 
     /// The offset of the `^` that comes next, if one does.
     pub fn caret(&self) -> Option<u32>
-        ensures { result ≡ caret_at (head self.now.rest.now) }
+        ensures { result ≡ next_caret (head self.now) }
     {
         match self.peek() {
             Some(Token::Caret(place)) => Some(place),
@@ -178,7 +202,7 @@ impl<'a> Cursor<'a> {
 
     /// The offset of the `*` that comes next, if one does.
     pub fn star(&self) -> Option<u32>
-        ensures { result ≡ star_at (head self.now.rest.now) }
+        ensures { result ≡ next_star (head self.now) }
     {
         match self.peek() {
             Some(Token::Star(place)) => Some(place),
@@ -188,7 +212,7 @@ impl<'a> Cursor<'a> {
 
     /// The offset of the `+` or `-` that comes next, if one does, and whether it is `-`.
     pub fn sum_sign(&self) -> Option<(u32, bool)>
-        ensures { result ≡ sign_at (head self.now.rest.now) }
+        ensures { result ≡ next_sign (head self.now) }
     {
         match self.peek() {
             Some(Token::Plus(place)) => Some((place, false)),

@@ -1,7 +1,7 @@
 //! What ends the reading of a text.
 
 ghost use Rattle.std.specs.Prelude.{◌≡◌};
-ghost use Rattle.qe_syntax.specs.declared.fault.Stop.TheVariants.{Memory};
+ghost use Rattle.qe_syntax.specs.declared.fault.Stop.TheVariants.{OutOfMemory};
 
 use std::alloc::{AllocError, AllocFailed};
 
@@ -31,22 +31,22 @@ pub enum ParseStop {
 /// Why a part of a text is not read. The fault is that of the token that comes next.
 #[derive(Debug, Drop)]
 pub enum Stop {
-    Memory,
-    Bad(TextFault),
+    Limit(TextFault),
+    OutOfMemory,
 }
 
 impl From<AllocError> for Stop {
-    ghost from_gives = { λ _ e. e ≡ Memory };
+    ghost from_gives = { λ _ e. e ≡ OutOfMemory };
 
     fn from(_e: AllocError) -> Stop {
-        Stop::Memory
+        Stop::OutOfMemory
     }
 }
 
 impl<T: Drop> From<AllocFailed<T>> for Stop {
-    ghost from_gives = { λ _ e. e ≡ Memory };
+    ghost from_gives = { λ _ e. e ≡ OutOfMemory };
 
     fn from(_e: AllocFailed<T>) -> Stop {
-        Stop::Memory
+        Stop::OutOfMemory
     }
 }

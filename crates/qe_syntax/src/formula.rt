@@ -1,10 +1,10 @@
 //! The parser of formulas: a method for each nonterminal.
 
 ghost use Rattle.std.specs.Prelude.{◌≡◌, ◌+◌, ◌≤◌, nat_le, true, IfOk, IsSome, OnOk};
-ghost use Rattle.qe_syntax.specs.Code.{formula_of};
-ghost use Rattle.qe_syntax.specs.Grammar.{ended, formula, scope, simple, disj, conj, unary, comparison, formula_tree, scope_tree, simple_tree, disj_tree, conj_tree, unary_tree, atom_tree, bound, linked, constant_tree};
+ghost use Rattle.qe_syntax.specs.Code.{tree_of};
+ghost use Rattle.qe_syntax.specs.Grammar.{with_end, formula, scope, simple, disj, conj, unary, comparison, formula_tree, scope_tree, simple_tree, disj_tree, conj_tree, unary_tree, atom_tree, bound, linked, constant_tree};
 ghost use Rattle.qe_syntax.specs.Faults.{head};
-ghost use Rattle.qe_syntax.specs.Reading.{Reads, on_term, on_conj, on_disj, on_simple, Tests, Binds, fault_at_limit, quantifier_at, arrow_at, constant_at, is_or, is_and, is_not, is_bracket};
+ghost use Rattle.qe_syntax.specs.Reading.{ReadsFormula, on_term, on_conj, on_disj, on_simple, Tests, Binds, fault_at_limit, next_quantifier, next_arrow, next_constant, is_or, is_and, is_not, is_bracket};
 ghost use Rattle.qe_syntax.specs.declared.fault.TextFault.TheVariants.{Syntax, TooMany};
 
 use crate::cursor::{Cursor, check_level, is_full, is_wide};
@@ -24,7 +24,7 @@ pub struct Parser<'a> {
 
 /// The formula that binds a name by `all` or `ex`.
 fn quantified(alloc: Global, all: bool, name: Name, body: Formula) -> Result<Formula, OutOfMemory>
-    ensures { IfOk result (λ f. formula_of f ≡ bound all name (formula_of body)) }
+    ensures { IfOk result (λ f. tree_of f ≡ bound all name (tree_of body)) }
 {
     let body = Box::new(alloc, body)?;
     if all {
@@ -36,7 +36,7 @@ fn quantified(alloc: Global, all: bool, name: Name, body: Formula) -> Result<For
 
 /// The formula with `iff` or `implies` between two.
 fn linked(alloc: Global, both: bool, left: Formula, right: Formula) -> Result<Formula, OutOfMemory>
-    ensures { IfOk result (λ f. formula_of f ≡ linked both (formula_of left) (formula_of right)) }
+    ensures { IfOk result (λ f. tree_of f ≡ linked both (tree_of left) (tree_of right)) }
 {
     let left = Box::new(alloc, left)?;
     let right = Box::new(alloc, right)?;
@@ -49,7 +49,7 @@ fn linked(alloc: Global, both: bool, left: Formula, right: Formula) -> Result<Fo
 
 /// A constant.
 fn constant_of(value: bool) -> Formula
-    ensures { formula_of result ≡ constant_tree value }
+    ensures { tree_of result ≡ constant_tree value }
 {
     if value { Formula::True } else { Formula::False }
 }
@@ -57,12 +57,12 @@ fn constant_of(value: bool) -> Formula
 impl<'a> Parser<'a> {
     /// Counts an atom, a constant or a bound name that begins here.
     fn begin(&mut self) -> Result<(), Stop>
-        ensures same { self.new.cursor.rest.now ≡ self.old.cursor.rest.now }
+        ensures same { self.new.cursor ≡ self.old.cursor }
         ensures tests { Tests (nat_le 65536 self.old.begun) TooMany result }
         ensures ok { OnOk result (self.new.begun ≡ self.old.begun + 1) }
     {
         if self.begun >= MOST {
-            return Err(Stop::Bad(TextFault::TooMany));
+            return Err(Stop::Limit(TextFault::TooMany));
         }
         self.begun += 1;
         Ok(())
@@ -70,8 +70,8 @@ impl<'a> Parser<'a> {
 
     /// Takes the name that comes next, and opens its level.
     fn bind(&mut self, depth: u32) -> Result<(), Stop>
-        requires { IsSome (head self.old.cursor.rest.now) }
-        ensures { Binds depth result (head self.old.cursor.rest.now) (ended self.old.cursor.rest.now) (ended self.new.cursor.rest.now) self.old.begun self.new.begun }
+        requires { IsSome (head self.old.cursor) }
+        ensures { Binds depth result (head self.old.cursor) (with_end self.old.cursor) (with_end self.new.cursor) self.old.begun self.new.begun }
     {
         check_level(depth)?;
         self.begin()?;
@@ -81,7 +81,7 @@ impl<'a> Parser<'a> {
 
     /// Whether the quantifier that comes next, if one does, is `all`.
     fn quantifier(&self) -> Option<bool>
-        ensures { result ≡ quantifier_at (head self.now.cursor.rest.now) }
+        ensures { result ≡ next_quantifier (head self.now.cursor) }
     {
         match self.cursor.peek() {
             Some(Token::Ex) => Some(false),
@@ -92,7 +92,7 @@ impl<'a> Parser<'a> {
 
     /// Whether the arrow that comes next, if one does, is `iff`.
     fn arrow(&self) -> Option<bool>
-        ensures { result ≡ arrow_at (head self.now.cursor.rest.now) }
+        ensures { result ≡ next_arrow (head self.now.cursor) }
     {
         match self.cursor.peek() {
             Some(Token::Implies) => Some(false),
@@ -103,7 +103,7 @@ impl<'a> Parser<'a> {
 
     /// Which constant comes next, if one does.
     fn constant(&self) -> Option<bool>
-        ensures { result ≡ constant_at (head self.now.cursor.rest.now) }
+        ensures { result ≡ next_constant (head self.now.cursor) }
     {
         match self.cursor.peek() {
             Some(Token::False) => Some(false),
@@ -113,36 +113,36 @@ impl<'a> Parser<'a> {
     }
 
     fn is_or(&self) -> bool
-        ensures { result ≡ is_or (head self.now.cursor.rest.now) }
+        ensures { result ≡ is_or (head self.now.cursor) }
     {
         matches!(self.cursor.peek(), Some(Token::Or))
     }
 
     fn is_and(&self) -> bool
-        ensures { result ≡ is_and (head self.now.cursor.rest.now) }
+        ensures { result ≡ is_and (head self.now.cursor) }
     {
         matches!(self.cursor.peek(), Some(Token::And))
     }
 
     fn is_not(&self) -> bool
-        ensures { result ≡ is_not (head self.now.cursor.rest.now) }
+        ensures { result ≡ is_not (head self.now.cursor) }
     {
         matches!(self.cursor.peek(), Some(Token::Not))
     }
 
     fn is_bracket(&self) -> bool
-        ensures { result ≡ is_bracket (head self.now.cursor.rest.now) }
+        ensures { result ≡ is_bracket (head self.now.cursor) }
     {
         matches!(self.cursor.peek(), Some(Token::OpenBracket))
     }
 
     /// Refuses an operator of terms, behind what is no term.
     fn refuse_operator(&self) -> Result<(), Stop>
-        ensures { Tests (on_term (head self.now.cursor.rest.now)) Syntax result }
+        ensures { Tests (on_term (head self.now.cursor)) Syntax result }
     {
         match self.cursor.peek() {
             Some(Token::Plus(_) | Token::Minus(_) | Token::Star(_) | Token::Caret(_)) => Err(
-                Stop::Bad(TextFault::Syntax),
+                Stop::Limit(TextFault::Syntax),
             ),
             _ => Ok(()),
         }
@@ -150,7 +150,7 @@ impl<'a> Parser<'a> {
 
     /// The fault of the token that comes next, where an atom should begin and no more may.
     fn fault_at_limit(&self, depth: u32) -> TextFault
-        ensures { result ≡ fault_at_limit (head self.now.cursor.rest.now) depth }
+        ensures { result ≡ fault_at_limit (head self.now.cursor) depth }
     {
         match self.cursor.peek() {
             Some(Token::Number(value)) => {
@@ -176,14 +176,14 @@ impl<'a> Parser<'a> {
     #[cycle(formula)]
     pub fn formula(&mut self, alloc: Global, depth: u32) -> Result<Formula, Stop>
         requires { depth ≤ 256 }
-        ensures { Reads (formula depth) on_simple formula_tree formula_of result (ended self.old.cursor.rest.now) (ended self.new.cursor.rest.now) self.old.begun self.new.begun }
+        ensures { ReadsFormula (formula depth) on_simple formula_tree result self.old self.new }
     {
         let Some(all) = self.quantifier() else {
             return self.simple(alloc, depth);
         };
         self.cursor.advance();
         let Some(name) = self.cursor.name() else {
-            return Err(Stop::Bad(TextFault::Syntax));
+            return Err(Stop::Limit(TextFault::Syntax));
         };
         self.bind(depth)?;
         let body = self.scope(alloc, depth + 1, all)?;
@@ -194,7 +194,7 @@ impl<'a> Parser<'a> {
     #[cycle(formula)]
     fn scope(&mut self, alloc: Global, depth: u32, all: bool) -> Result<Formula, Stop>
         requires { depth ≤ 256 }
-        ensures { Reads (scope depth) on_simple (scope_tree all) formula_of result (ended self.old.cursor.rest.now) (ended self.new.cursor.rest.now) self.old.begun self.new.begun }
+        ensures { ReadsFormula (scope depth) on_simple (scope_tree all) result self.old self.new }
     {
         let Some(name) = self.cursor.name() else {
             self.cursor.expect(Token::Dot)?;
@@ -209,7 +209,7 @@ impl<'a> Parser<'a> {
     #[cycle(formula)]
     fn simple(&mut self, alloc: Global, depth: u32) -> Result<Formula, Stop>
         requires { depth ≤ 256 }
-        ensures { Reads (simple depth) on_simple simple_tree formula_of result (ended self.old.cursor.rest.now) (ended self.new.cursor.rest.now) self.old.begun self.new.begun }
+        ensures { ReadsFormula (simple depth) on_simple simple_tree result self.old self.new }
     {
         let left = self.disj(alloc, depth)?;
         let Some(both) = self.arrow() else {
@@ -218,7 +218,7 @@ impl<'a> Parser<'a> {
         self.cursor.advance();
         let right = self.disj(alloc, depth)?;
         if self.arrow().is_some() {
-            return Err(Stop::Bad(TextFault::Syntax));
+            return Err(Stop::Limit(TextFault::Syntax));
         }
         Ok(linked(alloc, both, left, right)?)
     }
@@ -227,7 +227,7 @@ impl<'a> Parser<'a> {
     #[cycle(formula)]
     fn disj(&mut self, alloc: Global, depth: u32) -> Result<Formula, Stop>
         requires { depth ≤ 256 }
-        ensures { Reads (disj depth) on_disj disj_tree formula_of result (ended self.old.cursor.rest.now) (ended self.new.cursor.rest.now) self.old.begun self.new.begun }
+        ensures { ReadsFormula (disj depth) on_disj disj_tree result self.old self.new }
     {
         let first = self.conj(alloc, depth)?;
         if !self.is_or() {
@@ -246,7 +246,7 @@ impl<'a> Parser<'a> {
     #[cycle(formula)]
     fn conj(&mut self, alloc: Global, depth: u32) -> Result<Formula, Stop>
         requires { depth ≤ 256 }
-        ensures { Reads (conj depth) on_conj conj_tree formula_of result (ended self.old.cursor.rest.now) (ended self.new.cursor.rest.now) self.old.begun self.new.begun }
+        ensures { ReadsFormula (conj depth) on_conj conj_tree result self.old self.new }
     {
         let first = self.unary(alloc, depth)?;
         if !self.is_and() {
@@ -265,7 +265,7 @@ impl<'a> Parser<'a> {
     #[cycle(formula)]
     fn unary(&mut self, alloc: Global, depth: u32) -> Result<Formula, Stop>
         requires { depth ≤ 256 }
-        ensures { Reads (unary depth) on_term unary_tree formula_of result (ended self.old.cursor.rest.now) (ended self.new.cursor.rest.now) self.old.begun self.new.begun }
+        ensures { ReadsFormula (unary depth) on_term unary_tree result self.old self.new }
     {
         if self.is_not() {
             check_level(depth)?;
@@ -289,8 +289,8 @@ impl<'a> Parser<'a> {
     #[cycle(formula)]
     fn bracket(&mut self, alloc: Global, depth: u32) -> Result<Formula, Stop>
         requires fits { depth ≤ 256 }
-        requires opens { is_bracket (head self.old.cursor.rest.now) ≡ true }
-        ensures { Reads (unary depth) on_term unary_tree formula_of result (ended self.old.cursor.rest.now) (ended self.new.cursor.rest.now) self.old.begun self.new.begun }
+        requires opens { is_bracket (head self.old.cursor) ≡ true }
+        ensures { ReadsFormula (unary depth) on_term unary_tree result self.old self.new }
     {
         check_level(depth)?;
         self.cursor.advance();
@@ -303,10 +303,10 @@ impl<'a> Parser<'a> {
     /// Two terms and a relation between them.
     fn atom(&mut self, alloc: Global, depth: u32) -> Result<Formula, Stop>
         requires { depth ≤ 256 }
-        ensures { Reads (comparison depth) on_term atom_tree formula_of result (ended self.old.cursor.rest.now) (ended self.new.cursor.rest.now) self.old.begun self.new.begun }
+        ensures { ReadsFormula (comparison depth) on_term atom_tree result self.old self.new }
     {
         if self.begun >= MOST {
-            return Err(Stop::Bad(self.fault_at_limit(depth)));
+            return Err(Stop::Limit(self.fault_at_limit(depth)));
         }
         self.begun += 1;
         let left = self.cursor.term(alloc, depth)?;

@@ -2,8 +2,8 @@
 
 ghost use Rattle.std.specs.Prelude.{◌≡◌, ◌≤◌, false, IfOk, map};
 ghost use Rattle.qe_syntax.specs.Code.{term_of, addend_of, factor_of, addends_of, factors_of};
-ghost use Rattle.qe_syntax.specs.Grammar.{ended, term, product, signed, power, primary, term_tree, product_tree, signed_tree, power_tree, primary_tree, summed, multiplied};
-ghost use Rattle.qe_syntax.specs.Reading.{Reads, on_term, on_product, on_power, on_primary};
+ghost use Rattle.qe_syntax.specs.Grammar.{term, product, signed, power, primary, term_tree, product_tree, signed_tree, power_tree, primary_tree, sum_of, product_of};
+ghost use Rattle.qe_syntax.specs.Reading.{ReadsTerm, on_term, on_product, on_power, on_primary};
 
 use crate::cursor::{Cursor, check_level, check_number, most_exponent};
 use crate::fault::{Stop, TextFault};
@@ -12,7 +12,7 @@ use std::alloc::Global;
 
 /// A sum of one summand or more.
 fn sum(alloc: Global, first: Term, addends: Sequence<Addend>) -> Result<Term, OutOfMemory>
-    ensures { IfOk result (λ t. term_of t ≡ summed (term_of first) (addends_of (map addend_of addends))) }
+    ensures { IfOk result (λ t. term_of t ≡ sum_of (term_of first) (addends_of (map addend_of addends))) }
 {
     if addends.items().is_empty() {
         return Ok(first);
@@ -22,7 +22,7 @@ fn sum(alloc: Global, first: Term, addends: Sequence<Addend>) -> Result<Term, Ou
 
 /// A product of one factor or more.
 fn product(alloc: Global, first: Term, factors: Sequence<Factor>) -> Result<Term, OutOfMemory>
-    ensures { IfOk result (λ t. term_of t ≡ multiplied (term_of first) (factors_of (map factor_of factors))) }
+    ensures { IfOk result (λ t. term_of t ≡ product_of (term_of first) (factors_of (map factor_of factors))) }
 {
     if factors.items().is_empty() {
         return Ok(first);
@@ -35,7 +35,7 @@ impl<'a> Cursor<'a> {
     #[cycle(term)]
     pub fn term(&mut self, alloc: Global, depth: u32) -> Result<Term, Stop>
         requires { depth ≤ 256 }
-        ensures { Reads (term depth false) on_term term_tree term_of result (ended self.old.rest.now) (ended self.new.rest.now) 0 0 }
+        ensures { ReadsTerm (term depth false) on_term term_tree result self.old self.new }
     {
         let first = self.product(alloc, depth)?;
         let mut addends = Sequence::new(alloc);
@@ -51,7 +51,7 @@ impl<'a> Cursor<'a> {
     #[cycle(term)]
     fn product(&mut self, alloc: Global, depth: u32) -> Result<Term, Stop>
         requires { depth ≤ 256 }
-        ensures { Reads (product depth false) on_product product_tree term_of result (ended self.old.rest.now) (ended self.new.rest.now) 0 0 }
+        ensures { ReadsTerm (product depth false) on_product product_tree result self.old self.new }
     {
         let first = self.signed(alloc, depth)?;
         let mut factors = Sequence::new(alloc);
@@ -67,7 +67,7 @@ impl<'a> Cursor<'a> {
     #[cycle(term)]
     fn signed(&mut self, alloc: Global, depth: u32) -> Result<Term, Stop>
         requires { depth ≤ 256 }
-        ensures { Reads (signed depth false) on_power signed_tree term_of result (ended self.old.rest.now) (ended self.new.rest.now) 0 0 }
+        ensures { ReadsTerm (signed depth false) on_power signed_tree result self.old self.new }
     {
         if !self.is_minus() {
             return self.power(alloc, depth);
@@ -82,7 +82,7 @@ impl<'a> Cursor<'a> {
     #[cycle(term)]
     fn power(&mut self, alloc: Global, depth: u32) -> Result<Term, Stop>
         requires { depth ≤ 256 }
-        ensures { Reads (power depth false) on_power power_tree term_of result (ended self.old.rest.now) (ended self.new.rest.now) 0 0 }
+        ensures { ReadsTerm (power depth false) on_power power_tree result self.old self.new }
     {
         let named = self.name().is_some();
         let base = self.primary(alloc, depth)?;
@@ -92,7 +92,7 @@ impl<'a> Cursor<'a> {
         self.advance();
         let exponent = self.exponent(most_exponent(named))?;
         if self.caret().is_some() {
-            return Err(Stop::Bad(TextFault::Syntax));
+            return Err(Stop::Limit(TextFault::Syntax));
         }
         Ok(Term::Power(Box::new(alloc, base)?, place, exponent))
     }
@@ -101,7 +101,7 @@ impl<'a> Cursor<'a> {
     #[cycle(term)]
     fn primary(&mut self, alloc: Global, depth: u32) -> Result<Term, Stop>
         requires { depth ≤ 256 }
-        ensures { Reads (primary depth false) on_primary primary_tree term_of result (ended self.old.rest.now) (ended self.new.rest.now) 0 0 }
+        ensures { ReadsTerm (primary depth false) on_primary primary_tree result self.old self.new }
     {
         if let Some(value) = self.number() {
             check_number(value)?;
@@ -113,7 +113,7 @@ impl<'a> Cursor<'a> {
             return Ok(Term::Name(name));
         }
         if !self.is_parenthesis() {
-            return Err(Stop::Bad(TextFault::Syntax));
+            return Err(Stop::Limit(TextFault::Syntax));
         }
         check_level(depth)?;
         self.advance();

@@ -2,7 +2,7 @@
 
 ghost use Rattle.std.specs.Prelude.{◌≡◌, ◌-◌, ◌≤◌, drop, length};
 ghost use Rattle.qe_syntax.specs.Tree.{FormulaTree};
-ghost use Rattle.qe_syntax.specs.Faults.{Answers, IsText, IsReadAs, next_place};
+ghost use Rattle.qe_syntax.specs.Faults.{Answers, IsText, GivesTree, next_place};
 
 use crate::cursor::Cursor;
 use crate::fault::{ParseStop, Stop, TextFault};
@@ -25,21 +25,21 @@ fn parse_first(alloc: Global, tokens: &[Located], end: u32) -> Result<Formula, P
     ensures { Answers tokens.now end result }
 {
     let mut parser = Parser {
-        cursor: Cursor { rest: tokens },
+        cursor: Cursor::new(tokens),
         begun: 0,
     };
     match parser.formula(alloc, 0) {
         Ok(formula) => {
-            let left = parser.cursor.rest.len();
+            let left = parser.cursor.len();
             if left == 0 {
                 return Ok(formula);
             }
             Err(ParseStop::Fault(TextFault::Syntax, place_of(tokens, left, end)))
         }
-        Err(Stop::Memory) => Err(ParseStop::OutOfMemory),
-        Err(Stop::Bad(fault)) => Err(ParseStop::Fault(
+        Err(Stop::OutOfMemory) => Err(ParseStop::OutOfMemory),
+        Err(Stop::Limit(fault)) => Err(ParseStop::Fault(
             fault,
-            place_of(tokens, parser.cursor.rest.len(), end),
+            place_of(tokens, parser.cursor.len(), end),
         )),
     }
 }
@@ -56,7 +56,7 @@ pub fn parse(alloc: Global, tokens: &[Located], end: u32) -> Result<Formula, Par
     // What is read is a text of the grammar within its limits; a fault is the first one.
     ensures answers { Answers tokens.now end result }
     // Each text of the grammar within its limits is read as its tree, unless memory runs out.
-    ensures only { (t : FormulaTree) → IsText tokens.now t → IsReadAs t result }
+    ensures only { (t : FormulaTree) → IsText tokens.now t → GivesTree t result }
 {
     parse_first(alloc, tokens, end)
 }

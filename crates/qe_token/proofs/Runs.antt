@@ -5,7 +5,7 @@ use Rattle.std.proofs.lemmas.List.Folds.{list_all-append}
 use Rattle.std.specs.Prelude.{IsTrue, ◌==◌, codes}
 use Rattle.std.specs.List.{list_all}
 use Rattle.qe_token.specs.Bytes.{is_blank}
-use Rattle.qe_token.specs.Tokens.{extends, pairs, goes_on}
+use Rattle.qe_token.specs.Tokens.{extends, makes_relation, goes_on}
 use Rattle.qe_token.specs.Scanning.{IsRun}
 
 -- a relation of two bytes
@@ -42,7 +42,7 @@ two_by_sign a b (inl h) =
     by_second (inr k) e = inr (inl (rw (e, eqb-true b 62 k) refl))
 two_by_sign a b (inr h) = let parts = and_parts (a == 62) (b == 61) h in inr (inr (rw (eqb-true a 62 parts.0, eqb-true b 61 parts.1) refl))
 
-two : (a b : ℕ) → (pairs a b ≡ true) ⊎ (extends a b ≡ true) → IsTrue (list_all (extends a) (b ∷ [])) ⊎ IsPair (a ∷ b ∷ [])
+two : (a b : ℕ) → (makes_relation a b ≡ true) ⊎ (extends a b ≡ true) → IsTrue (list_all (extends a) (b ∷ [])) ⊎ IsPair (a ∷ b ∷ [])
 two a b (inl h) = inr (two_by_sign a b (or_cases ((a == 60) && (b == 61 || b == 62)) ((a == 62) && (b == 61)) h))
 two a b (inr h) = inl (and_from (extends a b) true h refl)
 
@@ -53,7 +53,7 @@ more_of a b c word (inr h) g = absurd (no_pair a b (c ∷ word) h g)
 -- a byte that makes the token longer
 pub run_grows : (word : List ℕ) (b : ℕ) → IsRun word → goes_on word b ≡ true → IsRun (word ++ b ∷ [])
 run_grows [] b r g = absurd cc
-run_grows (a ∷ []) b r g = (r.0, two a b (or_cases (pairs a b) (extends a b) g))
+run_grows (a ∷ []) b r g = (r.0, two a b (or_cases (makes_relation a b) (extends a b) g))
 run_grows (a ∷ c ∷ word) b r g = (r.0, more_of a b c word r.1 g)
 
 all_at : (p : ℕ → Bool) (xs : List ℕ) (b : ℕ) (ys : List ℕ) → IsTrue (list_all p (xs ++ b ∷ ys)) → p b ≡ true
@@ -62,7 +62,7 @@ all_at p xs b ys h =
     (and_parts (p b) (list_all p ys) split.1).0
 
 goes_by_extends : (a : ℕ) (word : List ℕ) (b : ℕ) → extends a b ≡ true → goes_on (a ∷ word) b ≡ true
-goes_by_extends a [] b h = or_right (pairs a b) (extends a b) h
+goes_by_extends a [] b h = or_right (makes_relation a b) (extends a b) h
 goes_by_extends a (c ∷ word) b h = h
 
 pair_goes : (a b : ℕ) (more : List ℕ) → IsPair (a ∷ b ∷ more) → goes_on (a ∷ []) b ≡ true

@@ -63,13 +63,13 @@ abbrev pub extends : ℕ → ℕ → Bool
 extends a b = (is_letter a && is_name_byte b) || (is_digit a && is_digit b)
 
 -- `<` goes on with `=` and `>`, `>` with `=`
-abbrev pub pairs : ℕ → ℕ → Bool
-pairs a b = (a == 60 && (b == 61 || b == 62)) || (a == 62 && b == 61)
+abbrev pub makes_relation : ℕ → ℕ → Bool
+makes_relation a b = (a == 60 && (b == 61 || b == 62)) || (a == 62 && b == 61)
 
 -- the byte makes the token longer
 abbrev pub goes_on : List ℕ → ℕ → Bool
 goes_on [] b = false
-goes_on (a ∷ []) b = pairs a b || extends a b
+goes_on (a ∷ []) b = makes_relation a b || extends a b
 goes_on (a ∷ c ∷ word) b = extends a b
 
 -- From this place on, the bytes are these tokens, each as long as possible, with blanks before, between and after.

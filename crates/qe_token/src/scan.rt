@@ -5,7 +5,7 @@ ghost use Rattle.std.specs.List.{All, list_all};
 ghost use Rattle.std.specs.Str.{bytes_eq};
 ghost use Rattle.qe_token.specs.declared.token.Located.{Located};
 ghost use Rattle.qe_token.specs.Bytes.{is_blank, is_digit, is_letter, is_name_byte, number_of};
-ghost use Rattle.qe_token.specs.Tokens.{extends, pairs, goes_on, AreTokens, NameIsIn};
+ghost use Rattle.qe_token.specs.Tokens.{extends, makes_relation, goes_on, AreTokens, NameIsIn};
 ghost use Rattle.qe_token.specs.Scanning.{IsRun, word_token, sign_token, token_of, finished, scan};
 
 use crate::{Located, Name, OutOfMemory, Relation, Token};
@@ -46,8 +46,8 @@ fn extends(first: u8, byte: u8) -> bool
 }
 
 /// Whether the two bytes are one relation.
-fn pairs(first: u8, byte: u8) -> bool
-    ensures { result ≡ pairs first byte }
+fn makes_relation(first: u8, byte: u8) -> bool
+    ensures { result ≡ makes_relation first byte }
 {
     (first == b'<' && (byte == b'=' || byte == b'>')) || (first == b'>' && byte == b'=')
 }
@@ -58,7 +58,7 @@ fn goes_on(word: &[u8], byte: u8) -> bool
 {
     match word {
         [] => false,
-        [only] => pairs(*only, byte) || extends(*only, byte),
+        [only] => makes_relation(*only, byte) || extends(*only, byte),
         [first, ..] => extends(*first, byte),
     }
 }

@@ -1,7 +1,7 @@
 use Rattle.std.proofs.Common.{◌≡◌, arith, ap, subst, sym, length, []}
 use Rattle.std.specs.List.{All}
 use Rattle.std.specs.Str.{IsUtf8}
-use Rattle.qe_syntax.specs.Code.{formula_of}
+use Rattle.qe_syntax.specs.Code.{tree_of}
 use Rattle.qe_read.specs.Names.{letters}
 use Rattle.qe_read.specs.FreeNames.{free_names}
 use Rattle.qe_read.specs.Formula.{bound_names}
@@ -11,14 +11,14 @@ use Rattle.qe_read.proofs.reader.read_tree.Goals.{After-deref-2}
 
 pub read_formula-requires : goal.read_formula-requires
 read_formula-requires c =
-    let found = found_all c.args.bytes.now (formula_of c.args.formula.now) _ _ _ _ c.deref.ensures.value c.in_ok-push_free.ensures.names c.new-occurrences.ensures.items c.new.ensures.items in
+    let found = found_all c.args.bytes.now (tree_of c.args.formula.now) _ _ _ _ c.deref.ensures.value c.in_ok-push_free.ensures.names c.new-occurrences.ensures.items c.new.ensures.items in
     omega (arith, ap length found, ap length c.new-bound.ensures.items, c.in_ok-free.ensures.few, c.requires.few)
 
-bound : (c : After-deref-2) → c.deref-2.result.now ≡ bound_names (formula_of c.args.formula.now)
-bound c = bound_all (formula_of c.args.formula.now) _ _ _ c.deref-2.ensures.value c.in_ok-form.ensures.bound c.new-bound.ensures.items
+bound : (c : After-deref-2) → c.deref-2.result.now ≡ bound_names (tree_of c.args.formula.now)
+bound c = bound_all (tree_of c.args.formula.now) _ _ _ c.deref-2.ensures.value c.in_ok-form.ensures.bound c.new-bound.ensures.items
 
-found : (c : After-deref-2) → c.deref.result.now ≡ free_names c.args.bytes.now [] (formula_of c.args.formula.now)
-found c = found_all c.args.bytes.now (formula_of c.args.formula.now) _ _ _ _ c.deref.ensures.value c.in_ok-push_free.ensures.names c.new-occurrences.ensures.items c.new.ensures.items
+found : (c : After-deref-2) → c.deref.result.now ≡ free_names c.args.bytes.now [] (tree_of c.args.formula.now)
+found c = found_all c.args.bytes.now (tree_of c.args.formula.now) _ _ _ _ c.deref.ensures.value c.in_ok-push_free.ensures.names c.new-occurrences.ensures.items c.new.ensures.items
 
 pub names_of-requires-clause-few : goal.names_of-requires-clause-few
 names_of-requires-clause-few c = omega (arith, ap length (found c), ap length (bound c), c.in_ok-free.ensures.few, c.requires.few)

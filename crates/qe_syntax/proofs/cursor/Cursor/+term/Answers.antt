@@ -1,7 +1,7 @@
 use Rattle.std.proofs.Common.{◌≡◌, Some, rules, map}
 use Rattle.std.proofs.lemmas.Result.{err_from_is_err_and}
 use Rattle.qe_syntax.specs.Code.{term_of, addend_of, factor_of}
-use Rattle.qe_syntax.specs.Grammar.{ended, sign_token}
+use Rattle.qe_syntax.specs.Grammar.{with_end, plus_or_minus}
 use Rattle.qe_syntax.specs.Faults.{head}
 use Rattle.qe_token.specs.declared.token.Token.TheVariants as token
 use Rattle.qe_syntax.proofs.Made.{pushed_addend, pushed_factor, made_number, made_name, made_negative, made_power}
@@ -34,9 +34,9 @@ product-times-smaller t c = search (rules, shorter)
 
 pub product-times-preserved : goal.product-times-preserved
 product-times-preserved t c =
-    let h : head c.times.self.rest.now ≡ Some (token.Star c.in-Some.place) = search (rules, star_head) in
-    let m = next_is c.times.self.rest.now c.advance.new.self.rest.now (token.Star c.in-Some.place) c.advance.ensures.rest h in
-    product_turn c.args.depth c.in-Some.place _ (term_of c.in_ok-term.term) (map factor_of c.times.factors) (map factor_of c.push.new.self) _ (ended c.times.self.rest.now) (ended c.advance.new.self.rest.now) _ m
+    let h : head c.times.self ≡ Some (token.Star c.in-Some.place) = search (rules, star_head) in
+    let m = next_is c.times.self c.advance.new.self (token.Star c.in-Some.place) c.advance.ensures.rest h in
+    product_turn c.args.depth c.in-Some.place _ (term_of c.in_ok-term.term) (map factor_of c.times.factors) (map factor_of c.push.new.self) _ (with_end c.times.self) (with_end c.advance.new.self) _ m
     (pushed_factor c.times.factors c.push.new.self c.in-Some.place c.in_ok-term.term c.in_ok-push.ensures.ok) c.times.invariant c.in_ok-term.ensures
 
 pub product-returns : goal.product-returns
@@ -48,25 +48,25 @@ term-returns-in_err-first t c = let p = err_from_is_err_and c.from_residual.resu
 pub term-returns-in_err-term : goal.term-returns-in_err-term
 term-returns-in_err-term t c =
     let p = err_from_is_err_and c.from_residual-in_err-term.result c.from_residual-in_err-term.ensures.1 in
-    let h : head c.sums.self.rest.now ≡ Some (sign_token c.in-Some.place c.in-Some.minus) = search (rules, sign_head) in
-    let m = next_is c.sums.self.rest.now c.advance.new.self.rest.now (sign_token c.in-Some.place c.in-Some.minus) c.advance.ensures.rest h in
-    rw (p.1, p.2) (term_turn_err c.args.depth c.in-Some.place c.in-Some.minus c.in_err-term.field-0.0 _ _ _ (ended c.sums.self.rest.now) (ended c.advance.new.self.rest.now) _ m c.sums.invariant c.in_err-term.ensures)
+    let h : head c.sums.self ≡ Some (plus_or_minus c.in-Some.place c.in-Some.minus) = search (rules, sign_head) in
+    let m = next_is c.sums.self c.advance.new.self (plus_or_minus c.in-Some.place c.in-Some.minus) c.advance.ensures.rest h in
+    rw (p.1, p.2) (term_turn_err c.args.depth c.in-Some.place c.in-Some.minus c.in_err-term.field-0.0 _ _ _ (with_end c.sums.self) (with_end c.advance.new.self) _ m c.sums.invariant c.in_err-term.ensures)
 
 pub product-returns-in_err-term : goal.product-returns-in_err-term
 product-returns-in_err-term t c =
     let p = err_from_is_err_and c.from_residual-in_err-term.result c.from_residual-in_err-term.ensures.1 in
-    let h : head c.times.self.rest.now ≡ Some (token.Star c.in-Some.place) = search (rules, star_head) in
-    let m = next_is c.times.self.rest.now c.advance.new.self.rest.now (token.Star c.in-Some.place) c.advance.ensures.rest h in
-    rw (p.1, p.2) (product_turn_err c.args.depth c.in-Some.place c.in_err-term.field-0.0 _ _ _ (ended c.times.self.rest.now) (ended c.advance.new.self.rest.now) _ m c.times.invariant c.in_err-term.ensures)
+    let h : head c.times.self ≡ Some (token.Star c.in-Some.place) = search (rules, star_head) in
+    let m = next_is c.times.self c.advance.new.self (token.Star c.in-Some.place) c.advance.ensures.rest h in
+    rw (p.1, p.2) (product_turn_err c.args.depth c.in-Some.place c.in_err-term.field-0.0 _ _ _ (with_end c.times.self) (with_end c.advance.new.self) _ m c.times.invariant c.in_err-term.ensures)
 
 pub term-sums-smaller : goal.term-sums-smaller
 term-sums-smaller t c = search (rules, shorter)
 
 pub term-sums-preserved : goal.term-sums-preserved
 term-sums-preserved t c =
-    let h : head c.sums.self.rest.now ≡ Some (sign_token c.in-Some.place c.in-Some.minus) = search (rules, sign_head) in
-    let m = next_is c.sums.self.rest.now c.advance.new.self.rest.now (sign_token c.in-Some.place c.in-Some.minus) c.advance.ensures.rest h in
-    term_turn c.args.depth c.in-Some.place c.in-Some.minus _ (term_of c.in_ok-term.term) (map addend_of c.sums.addends) (map addend_of c.push.new.self) _ (ended c.sums.self.rest.now) (ended c.advance.new.self.rest.now) _ m
+    let h : head c.sums.self ≡ Some (plus_or_minus c.in-Some.place c.in-Some.minus) = search (rules, sign_head) in
+    let m = next_is c.sums.self c.advance.new.self (plus_or_minus c.in-Some.place c.in-Some.minus) c.advance.ensures.rest h in
+    term_turn c.args.depth c.in-Some.place c.in-Some.minus _ (term_of c.in_ok-term.term) (map addend_of c.sums.addends) (map addend_of c.push.new.self) _ (with_end c.sums.self) (with_end c.advance.new.self) _ m
     (pushed_addend c.sums.addends c.push.new.self c.in-Some.place c.in-Some.minus c.in_ok-term.term c.in_ok-push.ensures.ok) c.sums.invariant c.in_ok-term.ensures
 
 pub term-returns : goal.term-returns

@@ -1,6 +1,6 @@
 use Rattle.std.proofs.Common.{◌+◌, ◌-◌, ◌*◌, length, map}
-use Rattle.qe_syntax.specs.Code.{formula_of}
-use Rattle.qe_syntax.specs.Grammar.{ended}
+use Rattle.qe_syntax.specs.Code.{tree_of}
+use Rattle.qe_syntax.specs.Grammar.{with_end}
 use Rattle.qe_syntax.specs.Faults.{head}
 use Rattle.qe_syntax.specs.Reading.{is_or, is_and}
 use Rattle.qe_syntax.proofs.Formulas.{IsConj, IsDisj}
@@ -28,13 +28,13 @@ abbrev pub decreases-bracket : goal.decreases-bracket
 decreases-bracket l = 7 * (256 - l.depth)
 
 abbrev pub decreases-disj-ors : goal.decreases-disj-ors
-decreases-disj-ors l = length l.self.cursor.rest.now
+decreases-disj-ors l = length l.self.cursor
 
 abbrev pub invariant-disj-ors : goal.invariant-disj-ors
-invariant-disj-ors l = IsDisj l.depth (map formula_of l.parts) (is_or (head l.self.cursor.rest.now)) (ended l.fn.self.cursor.rest.now) (ended l.self.cursor.rest.now) l.fn.self.begun l.self.begun
+invariant-disj-ors l = IsDisj l.depth (map tree_of l.parts) (is_or (head l.self.cursor)) (with_end l.fn.self.cursor) (with_end l.self.cursor) l.fn.self.begun l.self.begun
 
 abbrev pub decreases-conj-ands : goal.decreases-conj-ands
-decreases-conj-ands l = length l.self.cursor.rest.now
+decreases-conj-ands l = length l.self.cursor
 
 abbrev pub invariant-conj-ands : goal.invariant-conj-ands
-invariant-conj-ands l = IsConj l.depth (map formula_of l.parts) (is_and (head l.self.cursor.rest.now)) (ended l.fn.self.cursor.rest.now) (ended l.self.cursor.rest.now) l.fn.self.begun l.self.begun
+invariant-conj-ands l = IsConj l.depth (map tree_of l.parts) (is_and (head l.self.cursor)) (with_end l.fn.self.cursor) (with_end l.self.cursor) l.fn.self.begun l.self.begun
