@@ -4,6 +4,10 @@ use Rattle.qe_token.specs.declared.token.Token.{Token}
 use Rattle.qe_token.specs.declared.token.Token.TheVariants as token
 use Rattle.qe_token.specs.declared.token.Located.{Located}
 use Rattle.qe_token.specs.declared.token.Name.{Name}
+use Rattle.qe_syntax.specs.declared.formula.Quantifier.{Quantifier}
+use Rattle.qe_syntax.specs.declared.formula.Quantifier.TheVariants as quantifiers
+use Rattle.qe_syntax.specs.declared.formula.Arrow.{Arrow}
+use Rattle.qe_syntax.specs.declared.formula.Arrow.TheVariants as arrows
 use Rattle.qe_syntax.specs.Tree as tree
 use Rattle.qe_syntax.specs.Tree.{TermTree, Addends, no_addend, addend, Factors, no_factor, factor, FormulaTree, FormulaTrees, no_more, more}
 use Rattle.qe_syntax.specs.Grammar as grammar
@@ -76,25 +80,25 @@ all_disjoined : (f : FormulaTree) (gs : FormulaTrees) → all_names (disjoined f
 all_disjoined f no_more = sym (append-nil (all_names f))
 all_disjoined f (more g gs) = refl
 
-all_linked : (both : Bool) (f g : FormulaTree) → all_names (linked both f g) ≡ all_names f ++ all_names g
-all_linked true f g = refl
-all_linked false f g = refl
+all_linked : (arrow : Arrow) (f g : FormulaTree) → all_names (linked arrow f g) ≡ all_names f ++ all_names g
+all_linked arrows.Implies f g = refl
+all_linked arrows.Iff f g = refl
 
-all_bound : (all : Bool) (x : Name) (f : FormulaTree) → all_names (bound all x f) ≡ x ∷ all_names f
-all_bound true x f = refl
-all_bound false x f = refl
+all_bound : (quantifier : Quantifier) (x : Name) (f : FormulaTree) → all_names (bound quantifier x f) ≡ x ∷ all_names f
+all_bound quantifiers.Ex x f = refl
+all_bound quantifiers.All x f = refl
 
 no_sign : (at : ℕ) (minus : Bool) → name_in (Some (plus_or_minus at minus)) ≡ []
 no_sign at true = refl
 no_sign at false = refl
 
-no_quantifier : (all : Bool) → name_in (Some (quantifier_token all)) ≡ []
-no_quantifier true = refl
-no_quantifier false = refl
+no_quantifier : (quantifier : Quantifier) → name_in (Some (quantifier_token quantifier)) ≡ []
+no_quantifier quantifiers.Ex = refl
+no_quantifier quantifiers.All = refl
 
-no_arrow : (both : Bool) → name_in (Some (arrow_token both)) ≡ []
-no_arrow true = refl
-no_arrow false = refl
+no_arrow : (arrow : Arrow) → name_in (Some (arrow_token arrow)) ≡ []
+no_arrow arrows.Implies = refl
+no_arrow arrows.Iff = refl
 
 mutual
   in_term : (d : ℕ) (b : Bool) (t : grammar.Term) (rest : List Occurrence) → marked (grammar.term d b t rest) ≡ all_in (term_tree t) ++ marked rest
@@ -133,22 +137,22 @@ in_atom d (grammar.compare t at r u) rest = joined _ _ _ _ _ (in_term d true t (
 
 mutual
   in_formula : (d : ℕ) (f : grammar.Formula) (rest : List Occurrence) → marked (grammar.formula d f rest) ≡ all_names (formula_tree f) ++ marked rest
-  in_formula d (grammar.quantified all x s) rest =
-      ap (λ ns. ns ++ (x ∷ marked (grammar.scope (d + 1) s rest))) (no_quantifier all)
-      ∙ ap (λ ns. x ∷ ns) (in_scope (d + 1) all s rest)
-      ∙ ap (λ ns. ns ++ marked rest) (sym (all_bound all x (scope_tree all s)))
+  in_formula d (grammar.quantified quantifier x s) rest =
+      ap (λ ns. ns ++ (x ∷ marked (grammar.scope (d + 1) s rest))) (no_quantifier quantifier)
+      ∙ ap (λ ns. x ∷ ns) (in_scope (d + 1) quantifier s rest)
+      ∙ ap (λ ns. ns ++ marked rest) (sym (all_bound quantifier x (scope_tree quantifier s)))
   in_formula d (grammar.open_formula s) rest = in_simple d s rest
 
-  in_scope : (d : ℕ) (all : Bool) (s : grammar.Scope) (rest : List Occurrence) → marked (grammar.scope d s rest) ≡ all_names (scope_tree all s) ++ marked rest
-  in_scope d all (grammar.further x s) rest =
-      ap (λ ns. x ∷ ns) (in_scope (d + 1) all s rest) ∙ ap (λ ns. ns ++ marked rest) (sym (all_bound all x (scope_tree all s)))
-  in_scope d all (grammar.body f) rest = in_formula d f rest
+  in_scope : (d : ℕ) (quantifier : Quantifier) (s : grammar.Scope) (rest : List Occurrence) → marked (grammar.scope d s rest) ≡ all_names (scope_tree quantifier s) ++ marked rest
+  in_scope d quantifier (grammar.further x s) rest =
+      ap (λ ns. x ∷ ns) (in_scope (d + 1) quantifier s rest) ∙ ap (λ ns. ns ++ marked rest) (sym (all_bound quantifier x (scope_tree quantifier s)))
+  in_scope d quantifier (grammar.body f) rest = in_formula d f rest
 
   in_simple : (d : ℕ) (s : grammar.Simple) (rest : List Occurrence) → marked (grammar.simple d s rest) ≡ all_names (simple_tree s) ++ marked rest
   in_simple d (grammar.alone e) rest = in_disj d e rest
-  in_simple d (grammar.joined both e f) rest =
-      joined _ _ _ _ _ (in_disj d e (plain (arrow_token both) ∷ grammar.disj d f rest)) (ap (λ ns. ns ++ marked (grammar.disj d f rest)) (no_arrow both) ∙ in_disj d f rest)
-      ∙ ap (λ ns. ns ++ marked rest) (sym (all_linked both (disj_tree e) (disj_tree f)))
+  in_simple d (grammar.joined arrow e f) rest =
+      joined _ _ _ _ _ (in_disj d e (plain (arrow_token arrow) ∷ grammar.disj d f rest)) (ap (λ ns. ns ++ marked (grammar.disj d f rest)) (no_arrow arrow) ∙ in_disj d f rest)
+      ∙ ap (λ ns. ns ++ marked rest) (sym (all_linked arrow (disj_tree e) (disj_tree f)))
 
   in_disj : (d : ℕ) (e : grammar.Disj) (rest : List Occurrence) → marked (grammar.disj d e rest) ≡ all_names (disj_tree e) ++ marked rest
   in_disj d (grammar.ors c cs) rest =

@@ -12,6 +12,9 @@ use Rattle.qe_form.specs.Signs.{bits}
 use Rattle.qe_form.specs.Formula.{Formula, Formulas, True, False, Atom, And, Or, Not, Implies, Iff, Ex, All, no_more, more}
 use Rattle.qe_print.specs.Polynomial.{name_of, power_text, term_text, polynomial_text}
 use Rattle.qe_print.specs.Formula.{bracketed, formula_text}
+use Rattle.qe_syntax.specs.declared.formula.Quantifier.TheVariants as quantifiers
+use Rattle.qe_syntax.specs.declared.formula.Arrow.{Arrow}
+use Rattle.qe_syntax.specs.declared.formula.Arrow.TheVariants as arrows
 use Rattle.qe_syntax.specs.Grammar as grammar
 
 abbrev pub relation_of : ℕ → Relation
@@ -47,8 +50,8 @@ lone u = grammar.ands u grammar.no_and
 abbrev pub of_unary : grammar.Unary → grammar.Formula
 of_unary u = of_conj (lone u)
 
-abbrev pub joined_by : Bool → grammar.Unary → grammar.Unary → grammar.Formula
-joined_by both u v = grammar.open_formula (grammar.joined both (grammar.ors (lone u) grammar.no_or) (grammar.ors (lone v) grammar.no_or))
+abbrev pub joined_by : Arrow → grammar.Unary → grammar.Unary → grammar.Formula
+joined_by arrow u v = grammar.open_formula (grammar.joined arrow (grammar.ors (lone u) grammar.no_or) (grammar.ors (lone v) grammar.no_or))
 
 module _ (names : List (List ℕ)) where
   abbrev pub name_at : ℕ → ℕ → Name
@@ -119,10 +122,10 @@ module _ (names : List (List ℕ)) where
     formula_at place (Or no_more) = of_unary (grammar.constant false)
     formula_at place (Or (more f fs)) = grammar.open_formula (grammar.alone (grammar.ors (lone (part_at place f (formula_at (place + 1) f))) (ors_at (place + length (bracketed f (formula_text names f))) fs)))
     formula_at place (Not f) = of_unary (grammar.not (part_at (place + 4) f (formula_at (place + 4 + 1) f)))
-    formula_at place (Implies f g) = joined_by false (part_at place f (formula_at (place + 1) f)) (part_at (place + length (bracketed f (formula_text names f) ++ codes " implies ")) g (formula_at (place + length (bracketed f (formula_text names f) ++ codes " implies ") + 1) g))
-    formula_at place (Iff f g) = joined_by true (part_at place f (formula_at (place + 1) f)) (part_at (place + length (bracketed f (formula_text names f) ++ codes " iff ")) g (formula_at (place + length (bracketed f (formula_text names f) ++ codes " iff ") + 1) g))
-    formula_at place (Ex x f) = grammar.quantified false (name_at (place + 3) x) (grammar.body (formula_at (place + length (codes "ex " ++ name_of names x ++ codes ". ")) f))
-    formula_at place (All x f) = grammar.quantified true (name_at (place + 4) x) (grammar.body (formula_at (place + length (codes "all " ++ name_of names x ++ codes ". ")) f))
+    formula_at place (Implies f g) = joined_by arrows.Implies (part_at place f (formula_at (place + 1) f)) (part_at (place + length (bracketed f (formula_text names f) ++ codes " implies ")) g (formula_at (place + length (bracketed f (formula_text names f) ++ codes " implies ") + 1) g))
+    formula_at place (Iff f g) = joined_by arrows.Iff (part_at place f (formula_at (place + 1) f)) (part_at (place + length (bracketed f (formula_text names f) ++ codes " iff ")) g (formula_at (place + length (bracketed f (formula_text names f) ++ codes " iff ") + 1) g))
+    formula_at place (Ex x f) = grammar.quantified quantifiers.Ex (name_at (place + 3) x) (grammar.body (formula_at (place + length (codes "ex " ++ name_of names x ++ codes ". ")) f))
+    formula_at place (All x f) = grammar.quantified quantifiers.All (name_at (place + 4) x) (grammar.body (formula_at (place + length (codes "all " ++ name_of names x ++ codes ". ")) f))
 
     pub ands_at : ℕ → Formulas → grammar.Ands
     ands_at place no_more = grammar.no_and

@@ -3,6 +3,10 @@ use Rattle.std.proofs.Common.{ℕ, suc, ◌+◌, ◌≡◌, ◌<◌, ◌≤◌, 
 use Rattle.std.specs.Prelude.{if◌then◌else◌}
 use Rattle.std.proofs.lemmas.Bool.Decides.{nat_tests}
 use Rattle.qe_token.specs.declared.token.Name.{Name}
+use Rattle.qe_syntax.specs.declared.formula.Quantifier.{Quantifier}
+use Rattle.qe_syntax.specs.declared.formula.Quantifier.TheVariants as quantifiers
+use Rattle.qe_syntax.specs.declared.formula.Arrow.{Arrow}
+use Rattle.qe_syntax.specs.declared.formula.Arrow.TheVariants as arrows
 use Rattle.qe_syntax.specs.Tree.{TermTree, Addends, no_addend, addend, Factors, no_factor, factor, FormulaTree, FormulaTrees, no_more, more}
 use Rattle.qe_syntax.specs.Tree as tree
 use Rattle.qe_syntax.specs.Grammar.{Term, Sums, Product, Times, Signed, Power, Primary, Atom, sum, no_sum, sign, factors, no_times, times, negative, positive, base, raised, number, name, group, compare, Formula, Scope, Simple, Disj, Ors, Conj, Ands, Unary, quantified, open_formula, further, body, alone, joined, ors, no_or, or, ands, no_and, and, not, constant, bracket, atom, Occurrence, term, sums, product, timeses, signed, power, primary, comparison, formula, scope, simple, disj, orses, conj, andses, unary, term_tree, sums_tree, product_tree, times_tree, signed_tree, power_tree, primary_tree, atom_tree, formula_tree, scope_tree, simple_tree, disj_tree, ors_trees, conj_tree, ands_trees, unary_tree, sum_of, product_of, conjoined, disjoined, bound, linked, constant_tree, is_name}
@@ -102,13 +106,13 @@ shaped_comparison depth (compare t at k u) r h =
     let w = low_term depth true t _ h in
     let v = low_term depth false u r w.1.1 in ((w.0, v.0), v.1)
 
-shaped_bound : (all : Bool) (x : Name) (f : FormulaTree) → IsShaped f → IsShaped (bound all x f)
-shaped_bound true x f h = h
-shaped_bound false x f h = h
+shaped_bound : (quantifier : Quantifier) (x : Name) (f : FormulaTree) → IsShaped f → IsShaped (bound quantifier x f)
+shaped_bound quantifiers.Ex x f h = h
+shaped_bound quantifiers.All x f h = h
 
-shaped_linked : (both : Bool) (f g : FormulaTree) → IsShaped f → IsShaped g → IsShaped (linked both f g)
-shaped_linked true f g h k = (h, k)
-shaped_linked false f g h k = (h, k)
+shaped_linked : (arrow : Arrow) (f g : FormulaTree) → IsShaped f → IsShaped g → IsShaped (linked arrow f g)
+shaped_linked arrows.Implies f g h k = (h, k)
+shaped_linked arrows.Iff f g h k = (h, k)
 
 shaped_constant : (value : Bool) → IsShaped (constant_tree value)
 shaped_constant true = tt
@@ -124,18 +128,18 @@ shaped_disjoined f (more g gs) h k = (omega arith, (h, k))
 
 mutual
   pub shaped_formula : (depth : ℕ) (f : Formula) (r : List Occurrence) → AllFit (formula depth f r) → IsShaped (formula_tree f) × AllFit r
-  shaped_formula depth (quantified all x s) r h = let w = shaped_scope (depth + 1) all s r h.1.1 in (shaped_bound all x (scope_tree all s) w.0, w.1)
+  shaped_formula depth (quantified quantifier x s) r h = let w = shaped_scope (depth + 1) quantifier s r h.1.1 in (shaped_bound quantifier x (scope_tree quantifier s) w.0, w.1)
   shaped_formula depth (open_formula s) r h = shaped_simple depth s r h
 
-  shaped_scope : (depth : ℕ) (all : Bool) (s : Scope) (r : List Occurrence) → AllFit (scope depth s r) → IsShaped (scope_tree all s) × AllFit r
-  shaped_scope depth all (further x s) r h = let w = shaped_scope (depth + 1) all s r h.1 in (shaped_bound all x (scope_tree all s) w.0, w.1)
-  shaped_scope depth all (body f) r h = shaped_formula depth f r h.1
+  shaped_scope : (depth : ℕ) (quantifier : Quantifier) (s : Scope) (r : List Occurrence) → AllFit (scope depth s r) → IsShaped (scope_tree quantifier s) × AllFit r
+  shaped_scope depth quantifier (further x s) r h = let w = shaped_scope (depth + 1) quantifier s r h.1 in (shaped_bound quantifier x (scope_tree quantifier s) w.0, w.1)
+  shaped_scope depth quantifier (body f) r h = shaped_formula depth f r h.1
 
   shaped_simple : (depth : ℕ) (s : Simple) (r : List Occurrence) → AllFit (simple depth s r) → IsShaped (simple_tree s) × AllFit r
   shaped_simple depth (alone d) r h = shaped_disj depth d r h
-  shaped_simple depth (joined both d e) r h =
+  shaped_simple depth (joined arrow d e) r h =
       let w = shaped_disj depth d _ h in
-      let v = shaped_disj depth e r w.1.1 in (shaped_linked both (disj_tree d) (disj_tree e) w.0 v.0, v.1)
+      let v = shaped_disj depth e r w.1.1 in (shaped_linked arrow (disj_tree d) (disj_tree e) w.0 v.0, v.1)
 
   shaped_disj : (depth : ℕ) (d : Disj) (r : List Occurrence) → AllFit (disj depth d r) → IsShaped (disj_tree d) × AllFit r
   shaped_disj depth (ors c cs) r h =
@@ -220,13 +224,13 @@ mutual
 count_comparison : (k depth : ℕ) (a : Atom) (r : List Occurrence) → counted k (comparison depth a r) ≡ counted (k + begun_in (atom_tree a)) r
 count_comparison k depth (compare t at q u) r = count_term k depth true t _ ∙ count_term (k + 1) depth false u r
 
-count_bound : (all : Bool) (x : Name) (f : FormulaTree) → begun_in (bound all x f) ≡ 1 + begun_in f
-count_bound true x f = refl
-count_bound false x f = refl
+count_bound : (quantifier : Quantifier) (x : Name) (f : FormulaTree) → begun_in (bound quantifier x f) ≡ 1 + begun_in f
+count_bound quantifiers.Ex x f = refl
+count_bound quantifiers.All x f = refl
 
-count_linked : (both : Bool) (f g : FormulaTree) → begun_in (linked both f g) ≡ begun_in f + begun_in g
-count_linked true f g = refl
-count_linked false f g = refl
+count_linked : (arrow : Arrow) (f g : FormulaTree) → begun_in (linked arrow f g) ≡ begun_in f + begun_in g
+count_linked arrows.Implies f g = refl
+count_linked arrows.Iff f g = refl
 
 count_constant : (value : Bool) → begun_in (constant_tree value) ≡ 1
 count_constant true = refl
@@ -245,20 +249,20 @@ sum_up k a b c e = omega arith
 
 mutual
   pub count_formula : (k depth : ℕ) (f : Formula) (r : List Occurrence) → counted k (formula depth f r) ≡ counted (k + begun_in (formula_tree f)) r
-  count_formula k depth (quantified all x s) r =
-      count_scope (k + 1) (depth + 1) all s r ∙ ap (λ n. counted n r) (sum_up k 1 (begun_in (scope_tree all s)) (begun_in (bound all x (scope_tree all s))) (count_bound all x (scope_tree all s)))
+  count_formula k depth (quantified quantifier x s) r =
+      count_scope (k + 1) (depth + 1) quantifier s r ∙ ap (λ n. counted n r) (sum_up k 1 (begun_in (scope_tree quantifier s)) (begun_in (bound quantifier x (scope_tree quantifier s))) (count_bound quantifier x (scope_tree quantifier s)))
   count_formula k depth (open_formula s) r = count_simple k depth s r
 
-  count_scope : (k depth : ℕ) (all : Bool) (s : Scope) (r : List Occurrence) → counted k (scope depth s r) ≡ counted (k + begun_in (scope_tree all s)) r
-  count_scope k depth all (further x s) r =
-      count_scope (k + 1) (depth + 1) all s r ∙ ap (λ n. counted n r) (sum_up k 1 (begun_in (scope_tree all s)) (begun_in (bound all x (scope_tree all s))) (count_bound all x (scope_tree all s)))
-  count_scope k depth all (body f) r = count_formula k depth f r
+  count_scope : (k depth : ℕ) (quantifier : Quantifier) (s : Scope) (r : List Occurrence) → counted k (scope depth s r) ≡ counted (k + begun_in (scope_tree quantifier s)) r
+  count_scope k depth quantifier (further x s) r =
+      count_scope (k + 1) (depth + 1) quantifier s r ∙ ap (λ n. counted n r) (sum_up k 1 (begun_in (scope_tree quantifier s)) (begun_in (bound quantifier x (scope_tree quantifier s))) (count_bound quantifier x (scope_tree quantifier s)))
+  count_scope k depth quantifier (body f) r = count_formula k depth f r
 
   count_simple : (k depth : ℕ) (s : Simple) (r : List Occurrence) → counted k (simple depth s r) ≡ counted (k + begun_in (simple_tree s)) r
   count_simple k depth (alone d) r = count_disj k depth d r
-  count_simple k depth (joined both d e) r =
+  count_simple k depth (joined arrow d e) r =
       count_disj k depth d _ ∙ count_disj (k + begun_in (disj_tree d)) depth e r
-      ∙ ap (λ n. counted n r) (sum_up k (begun_in (disj_tree d)) (begun_in (disj_tree e)) (begun_in (linked both (disj_tree d) (disj_tree e))) (count_linked both (disj_tree d) (disj_tree e)))
+      ∙ ap (λ n. counted n r) (sum_up k (begun_in (disj_tree d)) (begun_in (disj_tree e)) (begun_in (linked arrow (disj_tree d) (disj_tree e))) (count_linked arrow (disj_tree d) (disj_tree e)))
 
   count_disj : (k depth : ℕ) (d : Disj) (r : List Occurrence) → counted k (disj depth d r) ≡ counted (k + begun_in (disj_tree d)) r
   count_disj k depth (ors c cs) r =

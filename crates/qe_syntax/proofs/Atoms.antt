@@ -9,8 +9,8 @@ use Rattle.qe_token.specs.declared.token.Relation.{Relation}
 use Rattle.qe_token.specs.declared.token.Relation.TheVariants as relations
 use Rattle.qe_syntax.specs.declared.fault.TextFault.{TextFault}
 use Rattle.qe_syntax.specs.declared.fault.TextFault.TheVariants.{Syntax, Wide, Exponent, TooDeep, TooMany}
-use Rattle.qe_syntax.specs.declared.fault.Stop.{Stop}
-use Rattle.qe_syntax.specs.declared.fault.Stop.TheVariants as stop
+use Rattle.qe_halt.specs.declared.halt.Halt.{Halt}
+use Rattle.qe_halt.specs.declared.halt.Halt.TheVariants as halt
 use Rattle.qe_syntax.specs.declared.tree.Formula as code
 use Rattle.qe_syntax.specs.Tree as tree
 use Rattle.qe_syntax.specs.Tree.{TermTree, FormulaTree}
@@ -276,9 +276,9 @@ some_term = sum (factors (positive (base (number 0))) no_times) no_sum
 goes_first_term : (depth : ℕ) → GoesOn (term depth true) on_term (comparison depth) on_term []
 goes_first_term depth (compare t at r u) rest ts st e = (t, plain (token.Relation at r) ∷ term depth false u rest, refl, e)
 
-pub left_term_err : (depth : ℕ) (e : Stop) (old new : List Tok) (b d : ℕ) → nat_le 65536 b ≡ false → Reads (term depth false) on_term term_tree term_of (Err e) old new 0 0 → Reads (comparison depth) on_term atom_tree tree_of (Err e) old new b d
-left_term_err depth stop.OutOfMemory old new b d k r = tt
-left_term_err depth (stop.Limit f) old new b d k r =
+pub left_term_err : (depth : ℕ) (e : Halt TextFault) (old new : List Tok) (b d : ℕ) → nat_le 65536 b ≡ false → Reads (term depth false) on_term term_tree term_of (Err e) old new 0 0 → Reads (comparison depth) on_term atom_tree tree_of (Err e) old new b d
+left_term_err depth halt.OutOfMemory old new b d k r = tt
+left_term_err depth (halt.Limit f) old new b d k r =
     within (term depth true) on_term (comparison depth) on_term (term-append depth true) [] (plain (token.Relation 0 relations.Less) ∷ term depth false some_term []) (λ t. compare t 0 relations.Less some_term) (λ t. refl) (goes_first_term depth)
     f old old new b b refl tt refl (first_stopped depth f old new b k r)
 
@@ -309,10 +309,10 @@ not_relation depth t x ts st bad (compare u at r v) rest us e =
     let f : Some (token.Relation at r) ≡ x = let y : Some (token.Relation at r) ∷ tokens_of (term depth false v rest) ≡ x ∷ us = w.1 in cc in
     bad at r ts (ap (λ (y : Tok). y ∷ ts) (sym f))
 
-pub relation_err : (depth : ℕ) (e : Stop) (left : TermTree) (old mid new : List Located) (b d : ℕ) → nat_le 65536 b ≡ false → IsRead (term depth false) on_term term_tree left (with_end old) (with_end mid) 0 0 → TakesRelation (Err e) (with_end mid) (with_end new)
+pub relation_err : (depth : ℕ) (e : Halt TextFault) (left : TermTree) (old mid new : List Located) (b d : ℕ) → nat_le 65536 b ≡ false → IsRead (term depth false) on_term term_tree left (with_end old) (with_end mid) 0 0 → TakesRelation (Err e) (with_end mid) (with_end new)
     → Reads (comparison depth) on_term atom_tree tree_of (Err e) (with_end old) (with_end new) b d
-relation_err depth stop.OutOfMemory left old mid new b d k r s = absurd s
-relation_err depth (stop.Limit Syntax) left old mid new b d k r s =
+relation_err depth halt.OutOfMemory left old mid new b d k r s = absurd s
+relation_err depth (halt.Limit Syntax) left old mid new b d k r s =
     let w = some_first mid in
     let l = first_read depth left (with_end old) (with_end mid) b k r in
     let T = term depth true l.found [] in
@@ -320,15 +320,15 @@ relation_err depth (stop.Limit Syntax) left old mid new b d k r s =
     refused_at (comparison depth) on_term (compare l.found 0 relations.Less some_term) T R (head mid) (with_end old) (with_end new) w.0 b (term-append depth true l.found [] R)
     (l.spelled ∙ ap (λ (x : List Tok). tokens_of T ++ x) (sym s.0)) (s.0 ∙ w.1) l.clean
     (λ a rest us st e. not_relation depth l.found (head mid) w.0 (subst (λ x. Stops on_term x) w.1 l.stops) (λ p q vs f. s.1 p q vs (w.1 ∙ f)) a rest us e)
-relation_err depth (stop.Limit Wide) left old mid new b d k r s = absurd s
-relation_err depth (stop.Limit Exponent) left old mid new b d k r s = absurd s
-relation_err depth (stop.Limit TooDeep) left old mid new b d k r s = absurd s
-relation_err depth (stop.Limit TooMany) left old mid new b d k r s = absurd s
+relation_err depth (halt.Limit Wide) left old mid new b d k r s = absurd s
+relation_err depth (halt.Limit Exponent) left old mid new b d k r s = absurd s
+relation_err depth (halt.Limit TooDeep) left old mid new b d k r s = absurd s
+relation_err depth (halt.Limit TooMany) left old mid new b d k r s = absurd s
 
-pub right_term_err : (depth : ℕ) (at : ℕ) (q : Relation) (e : Stop) (left : TermTree) (old mid mid' new : List Tok) (b d : ℕ) → nat_le 65536 b ≡ false → IsRead (term depth false) on_term term_tree left old mid 0 0 → mid ≡ Some (token.Relation at q) ∷ mid'
+pub right_term_err : (depth : ℕ) (at : ℕ) (q : Relation) (e : Halt TextFault) (left : TermTree) (old mid mid' new : List Tok) (b d : ℕ) → nat_le 65536 b ≡ false → IsRead (term depth false) on_term term_tree left old mid 0 0 → mid ≡ Some (token.Relation at q) ∷ mid'
     → Reads (term depth false) on_term term_tree term_of (Err e) mid' new 0 0 → Reads (comparison depth) on_term atom_tree tree_of (Err e) old new b d
-right_term_err depth at q stop.OutOfMemory left old mid mid' new b d k r m s = tt
-right_term_err depth at q (stop.Limit f) left old mid mid' new b d k r m s =
+right_term_err depth at q halt.OutOfMemory left old mid mid' new b d k r m s = tt
+right_term_err depth at q (halt.Limit f) left old mid mid' new b d k r m s =
     let l = first_read depth left old mid b k r in
     within (term depth false) on_term (comparison depth) on_term (term-append depth false) (before_second depth l.found at q) [] (λ u. compare l.found at q u) (second_made depth l.found at q) (goes_second depth l.found at q)
     f old mid' new b (b + 1) (l.spelled ∙ ap (λ (x : List Tok). tokens_of (term depth true l.found []) ++ x) m ∙ sym (tokens_of-before_second depth l.found at q mid'))
@@ -412,14 +412,14 @@ goes_not depth (atom a) rest ts st e = absurd (not_at_first depth a (Some token.
 level_clean : (b depth : ℕ) → nat_le 256 depth ≡ false → (if nat_le 256 depth then Some TooDeep else None) ≡ None
 level_clean b depth h = ap (λ (x : Bool). if x then Some TooDeep else None) h
 
-pub not_deep : (depth : ℕ) (e : Stop) (old : List Located) (b d : ℕ) → is_not (head old) ≡ true → Tests (nat_le 256 depth) TooDeep (Err e) → Reads (unary depth) on_term unary_tree tree_of (Err e) (with_end old) (with_end old) b d
-not_deep depth stop.OutOfMemory old b d h k = tt
-not_deep depth (stop.Limit f) old b d h k =
+pub not_deep : (depth : ℕ) (e : Halt TextFault) (old : List Located) (b d : ℕ) → is_not (head old) ≡ true → Tests (nat_le 256 depth) TooDeep (Err e) → Reads (unary depth) on_term unary_tree tree_of (Err e) (with_end old) (with_end old) b d
+not_deep depth halt.OutOfMemory old b d h k = tt
+not_deep depth (halt.Limit f) old b d h k =
     let w = at_head old token.Not (not_head (head old) h) in
     subst (λ g. IsStopped (unary depth) on_term g (with_end old) (with_end old) b) (sym k.1)
     (stops_at (unary depth) on_term (not (constant true)) [] (opener token.Not depth false) (word token.True true ∷ []) TooDeep (with_end old) (with_end old) w.0 b refl refl w.1 tt tt (ap (λ (x : Bool). if x then Some TooDeep else None) k.0))
 
-pub not_err : (depth : ℕ) (e : Stop) (old mid new : List Tok) (b d : ℕ) → old ≡ Some token.Not ∷ mid → nat_le 256 depth ≡ false → Reads (unary (depth + 1)) on_term unary_tree tree_of (Err e) mid new b d → Reads (unary depth) on_term unary_tree tree_of (Err e) old new b d
+pub not_err : (depth : ℕ) (e : Halt TextFault) (old mid new : List Tok) (b d : ℕ) → old ≡ Some token.Not ∷ mid → nat_le 256 depth ≡ false → Reads (unary (depth + 1)) on_term unary_tree tree_of (Err e) mid new b d → Reads (unary depth) on_term unary_tree tree_of (Err e) old new b d
 not_err depth e old mid new b d h k r =
     within_err (unary (depth + 1)) on_term (unary depth) on_term unary_tree unary_tree tree_of tree_of (unary-append (depth + 1)) (opener token.Not depth false ∷ []) [] not (λ a. refl) (goes_not depth) e old mid new b b d d h (level_clean b depth k, tt) refl r
 
@@ -439,9 +439,9 @@ constant_fault : (b : ℕ) (value : Bool) → passed_limit b (word (constant_tok
 constant_fault b true = refl
 constant_fault b false = refl
 
-pub constant_many : (depth : ℕ) (value : Bool) (e : Stop) (old new : List Located) (b d : ℕ) → next_constant (head old) ≡ Some value → new ≡ old → Tests (nat_le 65536 b) TooMany (Err e) → Reads (unary depth) on_term unary_tree tree_of (Err e) (with_end old) (with_end new) b d
-constant_many depth value stop.OutOfMemory old new b d h n k = tt
-constant_many depth value (stop.Limit f) old new b d h n k =
+pub constant_many : (depth : ℕ) (value : Bool) (e : Halt TextFault) (old new : List Located) (b d : ℕ) → next_constant (head old) ≡ Some value → new ≡ old → Tests (nat_le 65536 b) TooMany (Err e) → Reads (unary depth) on_term unary_tree tree_of (Err e) (with_end old) (with_end new) b d
+constant_many depth value halt.OutOfMemory old new b d h n k = tt
+constant_many depth value (halt.Limit f) old new b d h n k =
     let w = at_head old (constant_token value) (constant_head (head old) value h) in
     subst (λ g. IsStopped (unary depth) on_term g (with_end old) (with_end new) b) (sym k.1)
     (stops_at (unary depth) on_term (constant value) [] (word (constant_token value) true) [] TooMany (with_end old) (with_end new) w.0 b refl (ap with_end (sym n)) (ap with_end n ∙ w.1) tt tt (constant_fault b value ∙ ap (λ (x : Bool). if x then Some TooMany else None) k.0))
@@ -457,10 +457,10 @@ constant_alone depth false t h (bracket g) rest us st e = absurd cc
 constant_alone depth true t h (atom a) rest us st e = not_at_first depth a (Some token.True) rest _ refl e
 constant_alone depth false t h (atom a) rest us st e = not_at_first depth a (Some token.False) rest _ refl e
 
-pub constant_operator : (depth : ℕ) (value : Bool) (e : Stop) (old mid new : List Located) (b d : ℕ) → next_constant (head old) ≡ Some value → mid ≡ old → nat_le 65536 b ≡ false → with_end mid ≡ head mid ∷ with_end new → Tests (on_term (head new)) Syntax (Err e)
+pub constant_operator : (depth : ℕ) (value : Bool) (e : Halt TextFault) (old mid new : List Located) (b d : ℕ) → next_constant (head old) ≡ Some value → mid ≡ old → nat_le 65536 b ≡ false → with_end mid ≡ head mid ∷ with_end new → Tests (on_term (head new)) Syntax (Err e)
     → Reads (unary depth) on_term unary_tree tree_of (Err e) (with_end old) (with_end new) b d
-constant_operator depth value stop.OutOfMemory old mid new b d h n k m s = tt
-constant_operator depth value (stop.Limit f) old mid new b d h n k m s =
+constant_operator depth value halt.OutOfMemory old mid new b d h n k m s = tt
+constant_operator depth value (halt.Limit f) old mid new b d h n k m s =
     let w = some_first new in
     subst (λ g. IsStopped (unary depth) on_term g (with_end old) (with_end new) b) (sym s.1)
     (refused_at (unary depth) on_term (constant value) (word (constant_token value) true ∷ []) [] (head new) (with_end old) (with_end new) w.0 b refl
@@ -487,14 +487,14 @@ goes_bracket depth (constant false) rest ts st e = absurd cc
 goes_bracket depth (bracket f) rest ts st e = (f, plain token.CloseBracket ∷ rest, refl, cc)
 goes_bracket depth (atom a) rest ts st e = absurd (not_at_first depth a (Some token.OpenBracket) rest ts refl e)
 
-pub bracket_deep : (depth : ℕ) (e : Stop) (old : List Located) (b d : ℕ) → is_bracket (head old) ≡ true → Tests (nat_le 256 depth) TooDeep (Err e) → Reads (unary depth) on_term unary_tree tree_of (Err e) (with_end old) (with_end old) b d
-bracket_deep depth stop.OutOfMemory old b d h k = tt
-bracket_deep depth (stop.Limit f) old b d h k =
+pub bracket_deep : (depth : ℕ) (e : Halt TextFault) (old : List Located) (b d : ℕ) → is_bracket (head old) ≡ true → Tests (nat_le 256 depth) TooDeep (Err e) → Reads (unary depth) on_term unary_tree tree_of (Err e) (with_end old) (with_end old) b d
+bracket_deep depth halt.OutOfMemory old b d h k = tt
+bracket_deep depth (halt.Limit f) old b d h k =
     let w = at_head old token.OpenBracket (bracket_head (head old) h) in
     subst (λ g. IsStopped (unary depth) on_term g (with_end old) (with_end old) b) (sym k.1)
     (stops_at (unary depth) on_term (bracket (open_formula some_simple)) [] (opener token.OpenBracket depth false) (word token.True true ∷ plain token.CloseBracket ∷ []) TooDeep (with_end old) (with_end old) w.0 b refl refl w.1 tt tt (ap (λ (x : Bool). if x then Some TooDeep else None) k.0))
 
-pub bracket_err : (depth : ℕ) (e : Stop) (old mid new : List Tok) (b d d' : ℕ) → old ≡ Some token.OpenBracket ∷ mid → nat_le 256 depth ≡ false → Reads (formula (depth + 1)) on_simple formula_tree tree_of (Err e) mid new b d → Reads (unary depth) on_term unary_tree tree_of (Err e) old new b d'
+pub bracket_err : (depth : ℕ) (e : Halt TextFault) (old mid new : List Tok) (b d d' : ℕ) → old ≡ Some token.OpenBracket ∷ mid → nat_le 256 depth ≡ false → Reads (formula (depth + 1)) on_simple formula_tree tree_of (Err e) mid new b d → Reads (unary depth) on_term unary_tree tree_of (Err e) old new b d'
 bracket_err depth e old mid new b d d' h k r =
     within_err (formula (depth + 1)) on_simple (unary depth) on_term formula_tree unary_tree tree_of tree_of (formula-append (depth + 1)) (opener token.OpenBracket depth false ∷ []) (plain token.CloseBracket ∷ []) bracket (λ a. refl) (goes_bracket depth) e old mid new b b d d' h (level_clean b depth k, tt) refl r
 
@@ -510,20 +510,20 @@ no_close depth f t ts st bad (bracket g) rest us e =
     let x : Some token.CloseBracket ≡ t = let y : Some token.CloseBracket ∷ tokens_of rest ≡ t ∷ us = w.1 in cc in
     bad ts (ap (λ (v : Tok). v ∷ ts) (sym x))
 
-pub close_err : (depth : ℕ) (e : Stop) (value : FormulaTree) (old mid ts new : List Located) (b c d : ℕ) → with_end old ≡ Some token.OpenBracket ∷ with_end mid → nat_le 256 depth ≡ false → IsRead (formula (depth + 1)) on_simple formula_tree value (with_end mid) (with_end ts) b c
+pub close_err : (depth : ℕ) (e : Halt TextFault) (value : FormulaTree) (old mid ts new : List Located) (b c d : ℕ) → with_end old ≡ Some token.OpenBracket ∷ with_end mid → nat_le 256 depth ≡ false → IsRead (formula (depth + 1)) on_simple formula_tree value (with_end mid) (with_end ts) b c
     → Takes token.CloseBracket (Err e) (with_end ts) (with_end new) → Reads (unary depth) on_term unary_tree tree_of (Err e) (with_end old) (with_end new) b d
-close_err depth stop.OutOfMemory value old mid ts new b c d h k r s = tt
-close_err depth (stop.Limit Syntax) value old mid ts new b c d h k r s =
+close_err depth halt.OutOfMemory value old mid ts new b c d h k r s = tt
+close_err depth (halt.Limit Syntax) value old mid ts new b c d h k r s =
     let w = some_first ts in
     let F = formula (depth + 1) r.found [] in
     refused_at (unary depth) on_term (bracket r.found) (opener token.OpenBracket depth false ∷ F) (plain token.CloseBracket ∷ []) (head ts) (with_end old) (with_end new) w.0 b
     (ap (λ (ms : List Occurrence). opener token.OpenBracket depth false ∷ ms) (formula-append (depth + 1) r.found [] (plain token.CloseBracket ∷ [])))
     (h ∙ ap (λ (x : List Tok). Some token.OpenBracket ∷ x) (r.spelled ∙ ap (λ (x : List Tok). tokens_of F ++ x) (sym s.0))) (s.0 ∙ w.1) (level_clean b depth k, r.clean)
     (λ a rest us st e. no_close depth r.found (head ts) w.0 (subst (λ x. Stops on_simple x) w.1 r.stops) (λ us e. s.1 us (w.1 ∙ e)) a rest us e)
-close_err depth (stop.Limit Wide) value old mid ts new b c d h k r s = absurd s
-close_err depth (stop.Limit Exponent) value old mid ts new b c d h k r s = absurd s
-close_err depth (stop.Limit TooDeep) value old mid ts new b c d h k r s = absurd s
-close_err depth (stop.Limit TooMany) value old mid ts new b c d h k r s = absurd s
+close_err depth (halt.Limit Wide) value old mid ts new b c d h k r s = absurd s
+close_err depth (halt.Limit Exponent) value old mid ts new b c d h k r s = absurd s
+close_err depth (halt.Limit TooDeep) value old mid ts new b c d h k r s = absurd s
+close_err depth (halt.Limit TooMany) value old mid ts new b c d h k r s = absurd s
 
 -- the marks of a formula in brackets
 abbrev in_brackets : ℕ → Formula → List Occurrence
@@ -556,10 +556,10 @@ bracket_alone depth f t h (bracket g) rest us st e =
     goes [] st e = st
     goes (x ∷ rest) st e = let i : x.token ≡ t = cc in not_first on_term x.token t st h i
 
-pub bracket_operator : (depth : ℕ) (e : Stop) (value : FormulaTree) (old mid ts new : List Located) (b c d : ℕ) → with_end old ≡ Some token.OpenBracket ∷ with_end mid → nat_le 256 depth ≡ false → IsRead (formula (depth + 1)) on_simple formula_tree value (with_end mid) (with_end ts) b c
+pub bracket_operator : (depth : ℕ) (e : Halt TextFault) (value : FormulaTree) (old mid ts new : List Located) (b c d : ℕ) → with_end old ≡ Some token.OpenBracket ∷ with_end mid → nat_le 256 depth ≡ false → IsRead (formula (depth + 1)) on_simple formula_tree value (with_end mid) (with_end ts) b c
     → with_end ts ≡ Some token.CloseBracket ∷ with_end new → Tests (on_term (head new)) Syntax (Err e) → Reads (unary depth) on_term unary_tree tree_of (Err e) (with_end old) (with_end new) b d
-bracket_operator depth stop.OutOfMemory value old mid ts new b c d h k r g s = tt
-bracket_operator depth (stop.Limit f) value old mid ts new b c d h k r g s =
+bracket_operator depth halt.OutOfMemory value old mid ts new b c d h k r g s = tt
+bracket_operator depth (halt.Limit f) value old mid ts new b c d h k r g s =
     let w = some_first new in
     let B = in_brackets depth r.found in
     let flat : tokens_of B ≡ Some token.OpenBracket ∷ (tokens_of (formula (depth + 1) r.found []) ++ Some token.CloseBracket ∷ []) = ap (λ (x : List Tok). Some token.OpenBracket ∷ x) (tokens_of-append (formula (depth + 1) r.found []) (plain token.CloseBracket ∷ [])) in
@@ -589,8 +589,8 @@ goes_atom depth h a b c (constant true) rest ts st e = let g : Some token.True �
 goes_atom depth h a b c (constant false) rest ts st e = let g : Some token.False ≡ h = cc in let w : Some false ≡ None = ap next_constant g ∙ c in absurd cc
 goes_atom depth h a b c (atom d) rest ts st e = (d, rest, st, e)
 
-pub atom_through : (depth : ℕ) (result : Result code.Formula Stop) (old new : List Located) (b c : ℕ) → is_not (head old) ≡ false → is_bracket (head old) ≡ false → next_constant (head old) ≡ None → Reads (comparison depth) on_term atom_tree tree_of result (with_end old) (with_end new) b c
+pub atom_through : (depth : ℕ) (result : Result code.Formula (Halt TextFault)) (old new : List Located) (b c : ℕ) → is_not (head old) ≡ false → is_bracket (head old) ≡ false → next_constant (head old) ≡ None → Reads (comparison depth) on_term atom_tree tree_of result (with_end old) (with_end new) b c
     → Reads (unary depth) on_term unary_tree tree_of result (with_end old) (with_end new) b c
 atom_through depth (Ok f) old new b c x y z r = record { found = atom r.found; is = r.is; spelled = r.spelled; clean = r.clean; count = r.count; stops = r.stops }
-atom_through depth (Err stop.OutOfMemory) old new b c x y z r = tt
-atom_through depth (Err (stop.Limit f)) old new b c x y z r = from_first (comparison depth) on_term (unary depth) on_term (head old) atom (λ a. refl) (goes_atom depth (head old) x y z) f (with_end old) (with_end new) b (first_head old) r
+atom_through depth (Err halt.OutOfMemory) old new b c x y z r = tt
+atom_through depth (Err (halt.Limit f)) old new b c x y z r = from_first (comparison depth) on_term (unary depth) on_term (head old) atom (λ a. refl) (goes_atom depth (head old) x y z) f (with_end old) (with_end new) b (first_head old) r

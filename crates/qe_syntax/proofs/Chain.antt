@@ -2,8 +2,8 @@
 use Rattle.std.proofs.Common.{◌≡◌, ℕ, Bool, true, false, List, [], ◌∷◌, ◌++◌, None, refl, sym, ap, subst, ◌∙◌, append_assoc}
 use Rattle.std.specs.Prelude.{Err, Ok, Result}
 use Rattle.qe_syntax.specs.declared.fault.TextFault.{TextFault}
-use Rattle.qe_syntax.specs.declared.fault.Stop.{Stop}
-use Rattle.qe_syntax.specs.declared.fault.Stop.TheVariants as stop
+use Rattle.qe_halt.specs.declared.halt.Halt.{Halt}
+use Rattle.qe_halt.specs.declared.halt.Halt.TheVariants as halt
 use Rattle.qe_syntax.specs.Grammar.{Occurrence, tokens_of}
 use Rattle.qe_syntax.specs.Faults.{Tok, passed_limit, counted}
 use Rattle.qe_syntax.specs.Reading.{Stops, IsClean, IsRead, IsStopped, Reads}
@@ -141,10 +141,10 @@ module _ {O A P I : Type 0} (spell : A → List Occurrence → List Occurrence) 
       stops = s;
     }
 
-    pub first_err : {F G S : Type 0} (view : F → P) (view' : G → S) (of' : A × List (O × A) → S) (e : Stop) (old new : List Tok) (b c : ℕ) → Reads spell on of view (Err e) old new b c → Reads (chain spell mark) on' of' view' (Err e) old new b c
+    pub first_err : {F G S : Type 0} (view : F → P) (view' : G → S) (of' : A × List (O × A) → S) (e : Halt TextFault) (old new : List Tok) (b c : ℕ) → Reads spell on of view (Err e) old new b c → Reads (chain spell mark) on' of' view' (Err e) old new b c
     first_err view view' of' e old new b c r = within_err spell on (chain spell mark) on' of of' view view' append [] [] (λ a. (a, [])) (λ a. refl) goes_first e old old new b b c c refl tt refl r
 
-    pub turn_err : {F G S : Type 0} (view : F → P) (view' : G → S) (of' : A × List (O × A) → S) (o : O) (e : Stop) (first : P) (later : List I) (old mid mid' new : List Tok) (b c d : ℕ) → mid ≡ (mark o).token ∷ mid'
+    pub turn_err : {F G S : Type 0} (view : F → P) (view' : G → S) (of' : A × List (O × A) → S) (o : O) (e : Halt TextFault) (first : P) (later : List I) (old mid mid' new : List Tok) (b c d : ℕ) → mid ≡ (mark o).token ∷ mid'
         → IsChain spell on mark of item first later old mid b c → Reads spell on of view (Err e) mid' new c d → Reads (chain spell mark) on' of' view' (Err e) old new b d
     turn_err view view' of' o e first later old mid mid' new b c d m k r =
         let S = chain spell mark (k.one, k.others) [] in
@@ -161,7 +161,7 @@ module _ {A X : Type 0} (spell : A → List Occurrence → List Occurrence) (spe
   recast_stop f old new b append s =
       within spell on spell' on append [] [] to (λ a. to-spells a []) (λ x rest ts st e. (from x, rest, st, ap tokens_of (from-spells x rest) ∙ e)) f old old new b b refl tt refl s
 
-  pub recast : {F T : Type 0} (of : A → T) (of' : X → T) (view : F → T) → ((a : A) → of' (to a) ≡ of a) → (append : (a : A) (r q : List Occurrence) → spell a (r ++ q) ≡ spell a r ++ q) → (result : Result F Stop) (old new : List Tok) (b c : ℕ)
+  pub recast : {F T : Type 0} (of : A → T) (of' : X → T) (view : F → T) → ((a : A) → of' (to a) ≡ of a) → (append : (a : A) (r q : List Occurrence) → spell a (r ++ q) ≡ spell a r ++ q) → (result : Result F (Halt TextFault)) (old new : List Tok) (b c : ℕ)
       → Reads spell on of view result old new b c → Reads spell' on of' view result old new b c
   recast of of' view same append (Ok f) old new b c r = record {
     found = to r.found;
@@ -171,5 +171,5 @@ module _ {A X : Type 0} (spell : A → List Occurrence → List Occurrence) (spe
     count = ap (counted b) (to-spells r.found []) ∙ r.count;
     stops = r.stops;
   }
-  recast of of' view same append (Err stop.OutOfMemory) old new b c r = tt
-  recast of of' view same append (Err (stop.Limit f)) old new b c r = recast_stop f old new b append r
+  recast of of' view same append (Err halt.OutOfMemory) old new b c r = tt
+  recast of of' view same append (Err (halt.Limit f)) old new b c r = recast_stop f old new b append r

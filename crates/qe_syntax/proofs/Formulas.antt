@@ -5,10 +5,14 @@ use Rattle.std.proofs.lemmas.List.{append-nil}
 use Rattle.qe_token.specs.declared.token.Token.TheVariants as token
 use Rattle.qe_token.specs.declared.token.Located.{Located}
 use Rattle.qe_token.specs.declared.token.Name.{Name}
+use Rattle.qe_syntax.specs.declared.formula.Quantifier.{Quantifier}
+use Rattle.qe_syntax.specs.declared.formula.Quantifier.TheVariants as quantifiers
+use Rattle.qe_syntax.specs.declared.formula.Arrow.{Arrow}
+use Rattle.qe_syntax.specs.declared.formula.Arrow.TheVariants as arrows
 use Rattle.qe_syntax.specs.declared.fault.TextFault.{TextFault}
 use Rattle.qe_syntax.specs.declared.fault.TextFault.TheVariants.{Syntax, Wide, Exponent, TooDeep, TooMany}
-use Rattle.qe_syntax.specs.declared.fault.Stop.{Stop}
-use Rattle.qe_syntax.specs.declared.fault.Stop.TheVariants as stop
+use Rattle.qe_halt.specs.declared.halt.Halt.{Halt}
+use Rattle.qe_halt.specs.declared.halt.Halt.TheVariants as halt
 use Rattle.qe_syntax.specs.declared.tree.Formula as code
 use Rattle.qe_syntax.specs.Tree as tree
 use Rattle.qe_syntax.specs.Tree.{FormulaTree, FormulaTrees}
@@ -24,15 +28,15 @@ use Rattle.qe_syntax.proofs.Terms.{at_head, some_first, stops_at_head, head_stop
 
 -- ---- tokens
 
-pub quantifier_head : (t : Tok) (all : Bool) → next_quantifier t ≡ Some all → t ≡ Some (quantifier_token all)
-quantifier_head (Some token.Ex) all h = let e : false ≡ all = cc in ap (λ (b : Bool). Some (quantifier_token b)) e
-quantifier_head (Some token.All) all h = let e : true ≡ all = cc in ap (λ (b : Bool). Some (quantifier_token b)) e
-quantifier_head t all h = absurd cc
+pub quantifier_head : (t : Tok) (quantifier : Quantifier) → next_quantifier t ≡ Some quantifier → t ≡ Some (quantifier_token quantifier)
+quantifier_head (Some token.Ex) quantifier h = let e : quantifiers.Ex ≡ quantifier = cc in ap (λ q. Some (quantifier_token q)) e
+quantifier_head (Some token.All) quantifier h = let e : quantifiers.All ≡ quantifier = cc in ap (λ q. Some (quantifier_token q)) e
+quantifier_head t quantifier h = absurd cc
 
-pub arrow_head : (t : Tok) (both : Bool) → next_arrow t ≡ Some both → t ≡ Some (arrow_token both)
-arrow_head (Some token.Implies) both h = let e : false ≡ both = cc in ap (λ (b : Bool). Some (arrow_token b)) e
-arrow_head (Some token.Iff) both h = let e : true ≡ both = cc in ap (λ (b : Bool). Some (arrow_token b)) e
-arrow_head t both h = absurd cc
+pub arrow_head : (t : Tok) (arrow : Arrow) → next_arrow t ≡ Some arrow → t ≡ Some (arrow_token arrow)
+arrow_head (Some token.Implies) arrow h = let e : arrows.Implies ≡ arrow = cc in ap (λ a. Some (arrow_token a)) e
+arrow_head (Some token.Iff) arrow h = let e : arrows.Iff ≡ arrow = cc in ap (λ a. Some (arrow_token a)) e
+arrow_head t arrow h = absurd cc
 
 pub constant_head : (t : Tok) (value : Bool) → next_constant t ≡ Some value → t ≡ Some (constant_token value)
 constant_head (Some token.False) value h = let e : false ≡ value = cc in ap (λ (b : Bool). Some (constant_token b)) e
@@ -145,10 +149,10 @@ conj_parts depth = record {
 abbrev pub IsConj : ℕ → List FormulaTree → Bool → List Tok → List Tok → ℕ → ℕ → Type 0
 IsConj depth = IsParts (conj_parts depth)
 
-pub conj_first_err : (depth : ℕ) (e : Stop) (old new : List Tok) (b c : ℕ) → Reads (unary depth) on_term unary_tree tree_of (Err e) old new b c → Reads (conj depth) on_conj conj_tree tree_of (Err e) old new b c
+pub conj_first_err : (depth : ℕ) (e : Halt TextFault) (old new : List Tok) (b c : ℕ) → Reads (unary depth) on_term unary_tree tree_of (Err e) old new b c → Reads (conj depth) on_conj conj_tree tree_of (Err e) old new b c
 conj_first_err depth = parts_first_err (conj_parts depth)
 
-pub conj_turn_err : (depth : ℕ) (e : Stop) (parts : List FormulaTree) (goes : Bool) (old mid mid' new : List Tok) (b c d : ℕ) → mid ≡ Some token.And ∷ mid' → IsConj depth parts goes old mid b c → Reads (unary depth) on_term unary_tree tree_of (Err e) mid' new c d → Reads (conj depth) on_conj conj_tree tree_of (Err e) old new b d
+pub conj_turn_err : (depth : ℕ) (e : Halt TextFault) (parts : List FormulaTree) (goes : Bool) (old mid mid' new : List Tok) (b c d : ℕ) → mid ≡ Some token.And ∷ mid' → IsConj depth parts goes old mid b c → Reads (unary depth) on_term unary_tree tree_of (Err e) mid' new c d → Reads (conj depth) on_conj conj_tree tree_of (Err e) old new b d
 conj_turn_err depth = parts_turn_err (conj_parts depth)
 
 pub conj_alone : (depth : ℕ) (f : code.Formula) (old new : List Tok) (b c : ℕ) → Stops on_conj new → IsRead (unary depth) on_term unary_tree (tree_of f) old new b c → IsRead (conj depth) on_conj conj_tree (tree_of f) old new b c
@@ -229,10 +233,10 @@ disj_parts depth = record {
 abbrev pub IsDisj : ℕ → List FormulaTree → Bool → List Tok → List Tok → ℕ → ℕ → Type 0
 IsDisj depth = IsParts (disj_parts depth)
 
-pub disj_first_err : (depth : ℕ) (e : Stop) (old new : List Tok) (b c : ℕ) → Reads (conj depth) on_conj conj_tree tree_of (Err e) old new b c → Reads (disj depth) on_disj disj_tree tree_of (Err e) old new b c
+pub disj_first_err : (depth : ℕ) (e : Halt TextFault) (old new : List Tok) (b c : ℕ) → Reads (conj depth) on_conj conj_tree tree_of (Err e) old new b c → Reads (disj depth) on_disj disj_tree tree_of (Err e) old new b c
 disj_first_err depth = parts_first_err (disj_parts depth)
 
-pub disj_turn_err : (depth : ℕ) (e : Stop) (parts : List FormulaTree) (goes : Bool) (old mid mid' new : List Tok) (b c d : ℕ) → mid ≡ Some token.Or ∷ mid' → IsDisj depth parts goes old mid b c → Reads (conj depth) on_conj conj_tree tree_of (Err e) mid' new c d → Reads (disj depth) on_disj disj_tree tree_of (Err e) old new b d
+pub disj_turn_err : (depth : ℕ) (e : Halt TextFault) (parts : List FormulaTree) (goes : Bool) (old mid mid' new : List Tok) (b c d : ℕ) → mid ≡ Some token.Or ∷ mid' → IsDisj depth parts goes old mid b c → Reads (conj depth) on_conj conj_tree tree_of (Err e) mid' new c d → Reads (disj depth) on_disj disj_tree tree_of (Err e) old new b d
 disj_turn_err depth = parts_turn_err (disj_parts depth)
 
 pub disj_alone : (depth : ℕ) (f : code.Formula) (old new : List Tok) (b c : ℕ) → Stops on_disj new → IsRead (conj depth) on_conj conj_tree (tree_of f) old new b c → IsRead (disj depth) on_disj disj_tree (tree_of f) old new b c
@@ -257,67 +261,67 @@ to_disj_list ts s = weaker on_disj on_simple to_disj ts s
 
 goes_left : (depth : ℕ) → GoesOn (disj depth) on_disj (simple depth) on_simple []
 goes_left depth (alone d) rest ts st e = (d, rest, to_disj_list (tokens_of rest) st, e)
-goes_left depth (joined both d f) rest ts st e = (d, plain (arrow_token both) ∷ disj depth f rest, arrow_stops both, e)
+goes_left depth (joined arrow d f) rest ts st e = (d, plain (arrow_token arrow) ∷ disj depth f rest, arrow_stops arrow, e)
 
-pub left_err : (depth : ℕ) (e : Stop) (old new : List Tok) (b c : ℕ) → Reads (disj depth) on_disj disj_tree tree_of (Err e) old new b c → Reads (simple depth) on_simple simple_tree tree_of (Err e) old new b c
+pub left_err : (depth : ℕ) (e : Halt TextFault) (old new : List Tok) (b c : ℕ) → Reads (disj depth) on_disj disj_tree tree_of (Err e) old new b c → Reads (simple depth) on_simple simple_tree tree_of (Err e) old new b c
 left_err depth e old new b c r = within_err (disj depth) on_disj (simple depth) on_simple disj_tree simple_tree tree_of tree_of (disj-append depth) [] [] alone (λ a. refl) (goes_left depth) e old old new b b c c refl tt refl r
 
 pub read_alone : (depth : ℕ) (value : FormulaTree) (old new : List Tok) (b c : ℕ) → Stops on_simple new → IsRead (disj depth) on_disj disj_tree value old new b c → IsRead (simple depth) on_simple simple_tree value old new b c
 read_alone depth value old new b c s r = record { found = alone r.found; is = r.is; spelled = r.spelled; clean = r.clean; count = r.count; stops = s }
 
-arrow_clean : (b : ℕ) (both : Bool) → (passed_limit b (plain (arrow_token both)) ≡ None) × (counted b (plain (arrow_token both) ∷ []) ≡ b)
-arrow_clean b true = (refl, refl)
-arrow_clean b false = (refl, refl)
+arrow_clean : (b : ℕ) (arrow : Arrow) → (passed_limit b (plain (arrow_token arrow)) ≡ None) × (counted b (plain (arrow_token arrow) ∷ []) ≡ b)
+arrow_clean b arrows.Implies = (refl, refl)
+arrow_clean b arrows.Iff = (refl, refl)
 
-no_arrow : (rest : List Occurrence) (both : Bool) (ts : List Tok) → Stops on_simple (tokens_of rest) → tokens_of rest ≡ Some (arrow_token both) ∷ ts → ⊥
-no_arrow [] both ts s e = s
-no_arrow (x ∷ rest) both ts s e = let f : x.token ≡ Some (arrow_token both) = cc in absurd (not_first on_simple x.token (Some (arrow_token both)) s (arrow_goes both) f)
+no_arrow : (rest : List Occurrence) (arrow : Arrow) (ts : List Tok) → Stops on_simple (tokens_of rest) → tokens_of rest ≡ Some (arrow_token arrow) ∷ ts → ⊥
+no_arrow [] arrow ts s e = s
+no_arrow (x ∷ rest) arrow ts s e = let f : x.token ≡ Some (arrow_token arrow) = cc in absurd (not_first on_simple x.token (Some (arrow_token arrow)) s (arrow_goes arrow) f)
 
-abbrev before_right : ℕ → Disj → Bool → List Occurrence
-before_right depth d both = disj depth d [] ++ plain (arrow_token both) ∷ []
+abbrev before_right : ℕ → Disj → Arrow → List Occurrence
+before_right depth d arrow = disj depth d [] ++ plain (arrow_token arrow) ∷ []
 
-tokens_of-before_right : (depth : ℕ) (d : Disj) (both : Bool) (ts : List Tok) → tokens_of (before_right depth d both) ++ ts ≡ tokens_of (disj depth d []) ++ Some (arrow_token both) ∷ ts
-tokens_of-before_right depth d both ts = ap (λ (x : List Tok). x ++ ts) (tokens_of-append (disj depth d []) (plain (arrow_token both) ∷ [])) ∙ append_assoc (tokens_of (disj depth d [])) (Some (arrow_token both) ∷ []) ts
+tokens_of-before_right : (depth : ℕ) (d : Disj) (arrow : Arrow) (ts : List Tok) → tokens_of (before_right depth d arrow) ++ ts ≡ tokens_of (disj depth d []) ++ Some (arrow_token arrow) ∷ ts
+tokens_of-before_right depth d arrow ts = ap (λ (x : List Tok). x ++ ts) (tokens_of-append (disj depth d []) (plain (arrow_token arrow) ∷ [])) ∙ append_assoc (tokens_of (disj depth d [])) (Some (arrow_token arrow) ∷ []) ts
 
-goes_right : (depth : ℕ) (d : Disj) (both : Bool) → GoesOn (disj depth) on_disj (simple depth) on_simple (before_right depth d both)
-goes_right depth d both (alone f) rest ts st e =
-    let w = one_disj depth f d rest (Some (arrow_token both) ∷ ts) (to_disj_list (tokens_of rest) st) (arrow_stops both) (e ∙ tokens_of-before_right depth d both ts) in
-    absurd (no_arrow rest both ts st w.1)
-goes_right depth d both (joined q f g) rest ts st e =
-    let w = one_disj depth f d (plain (arrow_token q) ∷ disj depth g rest) (Some (arrow_token both) ∷ ts) (arrow_stops q) (arrow_stops both) (e ∙ tokens_of-before_right depth d both ts) in
-    (g, rest, to_disj_list (tokens_of rest) st, let x : Some (arrow_token q) ∷ tokens_of (disj depth g rest) ≡ Some (arrow_token both) ∷ ts = w.1 in cc)
+goes_right : (depth : ℕ) (d : Disj) (arrow : Arrow) → GoesOn (disj depth) on_disj (simple depth) on_simple (before_right depth d arrow)
+goes_right depth d arrow (alone f) rest ts st e =
+    let w = one_disj depth f d rest (Some (arrow_token arrow) ∷ ts) (to_disj_list (tokens_of rest) st) (arrow_stops arrow) (e ∙ tokens_of-before_right depth d arrow ts) in
+    absurd (no_arrow rest arrow ts st w.1)
+goes_right depth d arrow (joined q f g) rest ts st e =
+    let w = one_disj depth f d (plain (arrow_token q) ∷ disj depth g rest) (Some (arrow_token arrow) ∷ ts) (arrow_stops q) (arrow_stops arrow) (e ∙ tokens_of-before_right depth d arrow ts) in
+    (g, rest, to_disj_list (tokens_of rest) st, let x : Some (arrow_token q) ∷ tokens_of (disj depth g rest) ≡ Some (arrow_token arrow) ∷ ts = w.1 in cc)
 
-right_clean : (depth : ℕ) (d : Disj) (both : Bool) (b c : ℕ) → IsClean b (disj depth d []) → counted b (disj depth d []) ≡ c → IsClean b (before_right depth d both)
-right_clean depth d both b c h k = clean-append b c (disj depth d []) (plain (arrow_token both) ∷ []) k h ((arrow_clean c both).0, tt)
+right_clean : (depth : ℕ) (d : Disj) (arrow : Arrow) (b c : ℕ) → IsClean b (disj depth d []) → counted b (disj depth d []) ≡ c → IsClean b (before_right depth d arrow)
+right_clean depth d arrow b c h k = clean-append b c (disj depth d []) (plain (arrow_token arrow) ∷ []) k h ((arrow_clean c arrow).0, tt)
 
-right_count : (depth : ℕ) (d : Disj) (both : Bool) (b c : ℕ) → counted b (disj depth d []) ≡ c → counted b (before_right depth d both) ≡ c
-right_count depth d both b c k = counted-append b (disj depth d []) (plain (arrow_token both) ∷ []) ∙ ap (λ (n : ℕ). counted n (plain (arrow_token both) ∷ [])) k ∙ (arrow_clean c both).1
+right_count : (depth : ℕ) (d : Disj) (arrow : Arrow) (b c : ℕ) → counted b (disj depth d []) ≡ c → counted b (before_right depth d arrow) ≡ c
+right_count depth d arrow b c k = counted-append b (disj depth d []) (plain (arrow_token arrow) ∷ []) ∙ ap (λ (n : ℕ). counted n (plain (arrow_token arrow) ∷ [])) k ∙ (arrow_clean c arrow).1
 
-right_made : (depth : ℕ) (d : Disj) (both : Bool) (f : Disj) → simple depth (joined both d f) [] ≡ before_right depth d both ++ disj depth f []
-right_made depth d both f = disj-append depth d [] (plain (arrow_token both) ∷ disj depth f []) ∙ sym (append_assoc (disj depth d []) (plain (arrow_token both) ∷ []) (disj depth f []))
+right_made : (depth : ℕ) (d : Disj) (arrow : Arrow) (f : Disj) → simple depth (joined arrow d f) [] ≡ before_right depth d arrow ++ disj depth f []
+right_made depth d arrow f = disj-append depth d [] (plain (arrow_token arrow) ∷ disj depth f []) ∙ sym (append_assoc (disj depth d []) (plain (arrow_token arrow) ∷ []) (disj depth f []))
 
-pub right_err : (depth : ℕ) (both : Bool) (e : Stop) (left : FormulaTree) (old mid mid' new : List Tok) (b c d : ℕ) → mid ≡ Some (arrow_token both) ∷ mid' → IsRead (disj depth) on_disj disj_tree left old mid b c
+pub right_err : (depth : ℕ) (arrow : Arrow) (e : Halt TextFault) (left : FormulaTree) (old mid mid' new : List Tok) (b c d : ℕ) → mid ≡ Some (arrow_token arrow) ∷ mid' → IsRead (disj depth) on_disj disj_tree left old mid b c
     → Reads (disj depth) on_disj disj_tree tree_of (Err e) mid' new c d → Reads (simple depth) on_simple simple_tree tree_of (Err e) old new b d
-right_err depth both e left old mid mid' new b c d m l r =
-    within_err (disj depth) on_disj (simple depth) on_simple disj_tree simple_tree tree_of tree_of (disj-append depth) (before_right depth l.found both) [] (λ f. joined both l.found f) (right_made depth l.found both)
-    (goes_right depth l.found both) e old mid' new b c d d
-    (l.spelled ∙ ap (λ (x : List Tok). tokens_of (disj depth l.found []) ++ x) m ∙ sym (tokens_of-before_right depth l.found both mid'))
-    (right_clean depth l.found both b c l.clean l.count) (right_count depth l.found both b c l.count) r
+right_err depth arrow e left old mid mid' new b c d m l r =
+    within_err (disj depth) on_disj (simple depth) on_simple disj_tree simple_tree tree_of tree_of (disj-append depth) (before_right depth l.found arrow) [] (λ f. joined arrow l.found f) (right_made depth l.found arrow)
+    (goes_right depth l.found arrow) e old mid' new b c d d
+    (l.spelled ∙ ap (λ (x : List Tok). tokens_of (disj depth l.found []) ++ x) m ∙ sym (tokens_of-before_right depth l.found arrow mid'))
+    (right_clean depth l.found arrow b c l.clean l.count) (right_count depth l.found arrow b c l.count) r
 
-joined_spelled : (depth : ℕ) (both : Bool) (d f : Disj) (old mid mid' new : List Tok) → mid ≡ Some (arrow_token both) ∷ mid' → old ≡ tokens_of (disj depth d []) ++ mid → mid' ≡ tokens_of (disj depth f []) ++ new → old ≡ tokens_of (simple depth (joined both d f) []) ++ new
-joined_spelled depth both d f old mid mid' new m h k =
-    h ∙ ap (λ (x : List Tok). tokens_of (disj depth d []) ++ x) (m ∙ ap (λ (x : List Tok). Some (arrow_token both) ∷ x) k)
-    ∙ sym (append_assoc (tokens_of (disj depth d [])) (Some (arrow_token both) ∷ tokens_of (disj depth f [])) new)
-    ∙ ap (λ (x : List Tok). x ++ new) (sym (ap tokens_of (disj-append depth d [] (plain (arrow_token both) ∷ disj depth f [])) ∙ tokens_of-append (disj depth d []) (plain (arrow_token both) ∷ disj depth f [])))
+joined_spelled : (depth : ℕ) (arrow : Arrow) (d f : Disj) (old mid mid' new : List Tok) → mid ≡ Some (arrow_token arrow) ∷ mid' → old ≡ tokens_of (disj depth d []) ++ mid → mid' ≡ tokens_of (disj depth f []) ++ new → old ≡ tokens_of (simple depth (joined arrow d f) []) ++ new
+joined_spelled depth arrow d f old mid mid' new m h k =
+    h ∙ ap (λ (x : List Tok). tokens_of (disj depth d []) ++ x) (m ∙ ap (λ (x : List Tok). Some (arrow_token arrow) ∷ x) k)
+    ∙ sym (append_assoc (tokens_of (disj depth d [])) (Some (arrow_token arrow) ∷ tokens_of (disj depth f [])) new)
+    ∙ ap (λ (x : List Tok). x ++ new) (sym (ap tokens_of (disj-append depth d [] (plain (arrow_token arrow) ∷ disj depth f [])) ∙ tokens_of-append (disj depth d []) (plain (arrow_token arrow) ∷ disj depth f [])))
 
-pub read_joined : (depth : ℕ) (both : Bool) (value left right : FormulaTree) (old mid mid' : List Tok) (new : List Located) (b c d : ℕ) → value ≡ linked both left right → mid ≡ Some (arrow_token both) ∷ mid'
+pub read_joined : (depth : ℕ) (arrow : Arrow) (value left right : FormulaTree) (old mid mid' : List Tok) (new : List Located) (b c d : ℕ) → value ≡ linked arrow left right → mid ≡ Some (arrow_token arrow) ∷ mid'
     → IsRead (disj depth) on_disj disj_tree left old mid b c → IsRead (disj depth) on_disj disj_tree right mid' (with_end new) c d → is_some (next_arrow (head new)) ≡ false → IsRead (simple depth) on_simple simple_tree value old (with_end new) b d
-read_joined depth both value left right old mid mid' new b c d is m l r s = record {
-  found = joined both l.found r.found;
-  is = ap (λ (x : FormulaTree). linked both x (disj_tree r.found)) l.is ∙ ap (linked both left) r.is ∙ sym is;
-  spelled = joined_spelled depth both l.found r.found old mid mid' (with_end new) m l.spelled r.spelled;
-  clean = subst (λ (ms : List Occurrence). IsClean b ms) (sym (right_made depth l.found both r.found)) (clean-append b c (before_right depth l.found both) (disj depth r.found []) (right_count depth l.found both b c l.count) (right_clean depth l.found both b c l.clean l.count) r.clean);
-  count = ap (counted b) (right_made depth l.found both r.found) ∙ counted-append b (before_right depth l.found both) (disj depth r.found []) ∙ ap (λ (n : ℕ). counted n (disj depth r.found [])) (right_count depth l.found both b c l.count) ∙ r.count;
+read_joined depth arrow value left right old mid mid' new b c d is m l r s = record {
+  found = joined arrow l.found r.found;
+  is = ap (λ (x : FormulaTree). linked arrow x (disj_tree r.found)) l.is ∙ ap (linked arrow left) r.is ∙ sym is;
+  spelled = joined_spelled depth arrow l.found r.found old mid mid' (with_end new) m l.spelled r.spelled;
+  clean = subst (λ (ms : List Occurrence). IsClean b ms) (sym (right_made depth l.found arrow r.found)) (clean-append b c (before_right depth l.found arrow) (disj depth r.found []) (right_count depth l.found arrow b c l.count) (right_clean depth l.found arrow b c l.clean l.count) r.clean);
+  count = ap (counted b) (right_made depth l.found arrow r.found) ∙ counted-append b (before_right depth l.found arrow) (disj depth r.found []) ∙ ap (λ (n : ℕ). counted n (disj depth r.found [])) (right_count depth l.found arrow b c l.count) ∙ r.count;
   stops = simple_ends new r.stops (none_arrow (head new) s);
 }
   where
@@ -326,35 +330,35 @@ read_joined depth both value left right old mid mid' new b c d is m l r s = reco
     none_arrow (Some token.Iff) h = absurd cc
     none_arrow t h = refl
 
-some_arrow : (t : Tok) → is_some (next_arrow t) ≡ true → (q : Bool) × (t ≡ Some (arrow_token q))
-some_arrow (Some token.Implies) h = (false, refl)
-some_arrow (Some token.Iff) h = (true, refl)
+some_arrow : (t : Tok) → is_some (next_arrow t) ≡ true → (arrow : Arrow) × (t ≡ Some (arrow_token arrow))
+some_arrow (Some token.Implies) h = (arrows.Implies, refl)
+some_arrow (Some token.Iff) h = (arrows.Iff, refl)
 some_arrow t h = absurd cc
 
-no_second : (depth : ℕ) (both q : Bool) (d f : Disj) → (s : Simple) (rest : List Occurrence) (us : List Tok) → Stops on_simple (tokens_of rest)
-    → tokens_of (simple depth s rest) ≡ tokens_of (disj depth d []) ++ (Some (arrow_token both) ∷ (tokens_of (disj depth f []) ++ Some (arrow_token q) ∷ us)) → ⊥
-no_second depth both q d f (alone g) rest us st e =
-    let w = one_disj depth g d rest (Some (arrow_token both) ∷ (tokens_of (disj depth f []) ++ Some (arrow_token q) ∷ us)) (to_disj_list (tokens_of rest) st) (arrow_stops both) e in
-    no_arrow rest both _ st w.1
-no_second depth both q d f (joined p g h) rest us st e =
-    let w = one_disj depth g d (plain (arrow_token p) ∷ disj depth h rest) (Some (arrow_token both) ∷ (tokens_of (disj depth f []) ++ Some (arrow_token q) ∷ us)) (arrow_stops p) (arrow_stops both) e in
-    let x : tokens_of (disj depth h rest) ≡ tokens_of (disj depth f []) ++ Some (arrow_token q) ∷ us = let y : Some (arrow_token p) ∷ tokens_of (disj depth h rest) ≡ Some (arrow_token both) ∷ (tokens_of (disj depth f []) ++ Some (arrow_token q) ∷ us) = w.1 in cc in
+no_second : (depth : ℕ) (arrow q : Arrow) (d f : Disj) → (s : Simple) (rest : List Occurrence) (us : List Tok) → Stops on_simple (tokens_of rest)
+    → tokens_of (simple depth s rest) ≡ tokens_of (disj depth d []) ++ (Some (arrow_token arrow) ∷ (tokens_of (disj depth f []) ++ Some (arrow_token q) ∷ us)) → ⊥
+no_second depth arrow q d f (alone g) rest us st e =
+    let w = one_disj depth g d rest (Some (arrow_token arrow) ∷ (tokens_of (disj depth f []) ++ Some (arrow_token q) ∷ us)) (to_disj_list (tokens_of rest) st) (arrow_stops arrow) e in
+    no_arrow rest arrow _ st w.1
+no_second depth arrow q d f (joined p g h) rest us st e =
+    let w = one_disj depth g d (plain (arrow_token p) ∷ disj depth h rest) (Some (arrow_token arrow) ∷ (tokens_of (disj depth f []) ++ Some (arrow_token q) ∷ us)) (arrow_stops p) (arrow_stops arrow) e in
+    let x : tokens_of (disj depth h rest) ≡ tokens_of (disj depth f []) ++ Some (arrow_token q) ∷ us = let y : Some (arrow_token p) ∷ tokens_of (disj depth h rest) ≡ Some (arrow_token arrow) ∷ (tokens_of (disj depth f []) ++ Some (arrow_token q) ∷ us) = w.1 in cc in
     let v = one_disj depth h f rest (Some (arrow_token q) ∷ us) (to_disj_list (tokens_of rest) st) (arrow_stops q) x in
     no_arrow rest q us st v.1
 
-pub second_arrow : (depth : ℕ) (both : Bool) (left right : FormulaTree) (old mid mid' : List Tok) (new : List Located) (b c d : ℕ) → mid ≡ Some (arrow_token both) ∷ mid'
+pub second_arrow : (depth : ℕ) (arrow : Arrow) (left right : FormulaTree) (old mid mid' : List Tok) (new : List Located) (b c d : ℕ) → mid ≡ Some (arrow_token arrow) ∷ mid'
     → IsRead (disj depth) on_disj disj_tree left old mid b c → IsRead (disj depth) on_disj disj_tree right mid' (with_end new) c d → is_some (next_arrow (head new)) ≡ true → IsStopped (simple depth) on_simple Syntax old (with_end new) b
-second_arrow depth both left right old mid mid' new b c d m l r s =
+second_arrow depth arrow left right old mid mid' new b c d m l r s =
     let p = some_arrow (head new) s in
     let w = at_head new (arrow_token p.0) p.1 in
-    let F = simple depth (joined both l.found r.found) [] in
-    let split : tokens_of F ≡ tokens_of (disj depth l.found []) ++ (Some (arrow_token both) ∷ tokens_of (disj depth r.found [])) = ap tokens_of (disj-append depth l.found [] (plain (arrow_token both) ∷ disj depth r.found [])) ∙ tokens_of-append (disj depth l.found []) (plain (arrow_token both) ∷ disj depth r.found []) in
-    refused_at (simple depth) on_simple (joined both l.found r.found) F [] (Some (arrow_token p.0)) old (with_end new) w.0 b
+    let F = simple depth (joined arrow l.found r.found) [] in
+    let split : tokens_of F ≡ tokens_of (disj depth l.found []) ++ (Some (arrow_token arrow) ∷ tokens_of (disj depth r.found [])) = ap tokens_of (disj-append depth l.found [] (plain (arrow_token arrow) ∷ disj depth r.found [])) ∙ tokens_of-append (disj depth l.found []) (plain (arrow_token arrow) ∷ disj depth r.found []) in
+    refused_at (simple depth) on_simple (joined arrow l.found r.found) F [] (Some (arrow_token p.0)) old (with_end new) w.0 b
     (sym (append-nil F))
-    (joined_spelled depth both l.found r.found old mid mid' (with_end new) m l.spelled r.spelled)
+    (joined_spelled depth arrow l.found r.found old mid mid' (with_end new) m l.spelled r.spelled)
     w.1
-    (subst (λ (ms : List Occurrence). IsClean b ms) (sym (right_made depth l.found both r.found)) (clean-append b c (before_right depth l.found both) (disj depth r.found []) (right_count depth l.found both b c l.count) (right_clean depth l.found both b c l.clean l.count) r.clean))
-    (λ y rest us st e. no_second depth both p.0 l.found r.found y rest us st (e ∙ ap (λ (x : List Tok). x ++ Some (arrow_token p.0) ∷ us) split ∙ append_assoc (tokens_of (disj depth l.found [])) (Some (arrow_token both) ∷ tokens_of (disj depth r.found [])) (Some (arrow_token p.0) ∷ us)))
+    (subst (λ (ms : List Occurrence). IsClean b ms) (sym (right_made depth l.found arrow r.found)) (clean-append b c (before_right depth l.found arrow) (disj depth r.found []) (right_count depth l.found arrow b c l.count) (right_clean depth l.found arrow b c l.clean l.count) r.clean))
+    (λ y rest us st e. no_second depth arrow p.0 l.found r.found y rest us st (e ∙ ap (λ (x : List Tok). x ++ Some (arrow_token p.0) ∷ us) split ∙ append_assoc (tokens_of (disj depth l.found [])) (Some (arrow_token arrow) ∷ tokens_of (disj depth r.found [])) (Some (arrow_token p.0) ∷ us)))
 
 -- ---- a formula
 
@@ -362,34 +366,34 @@ second_arrow depth both left right old mid mid' new b c d m l r s =
 abbrev pub some_simple : Simple
 some_simple = alone (ors (ands (constant true) no_and) no_or)
 
-quantifier_clean : (b : ℕ) (all : Bool) → (passed_limit b (plain (quantifier_token all)) ≡ None) × (counted b (plain (quantifier_token all) ∷ []) ≡ b)
-quantifier_clean b true = (refl, refl)
-quantifier_clean b false = (refl, refl)
+quantifier_clean : (b : ℕ) (quantifier : Quantifier) → (passed_limit b (plain (quantifier_token quantifier)) ≡ None) × (counted b (plain (quantifier_token quantifier) ∷ []) ≡ b)
+quantifier_clean b quantifiers.Ex = (refl, refl)
+quantifier_clean b quantifiers.All = (refl, refl)
 
-not_quantified : (depth : ℕ) (all : Bool) (s : Simple) (rest : List Occurrence) (ts : List Tok) → tokens_of (simple depth s rest) ≡ Some (quantifier_token all) ∷ ts → ⊥
-not_quantified depth true s rest ts e = begins_else starts_simple _ _ _ (simple_begins depth s rest) refl e
-not_quantified depth false s rest ts e = begins_else starts_simple _ _ _ (simple_begins depth s rest) refl e
+not_quantified : (depth : ℕ) (quantifier : Quantifier) (s : Simple) (rest : List Occurrence) (ts : List Tok) → tokens_of (simple depth s rest) ≡ Some (quantifier_token quantifier) ∷ ts → ⊥
+not_quantified depth quantifiers.Ex s rest ts e = begins_else starts_simple _ _ _ (simple_begins depth s rest) refl e
+not_quantified depth quantifiers.All s rest ts e = begins_else starts_simple _ _ _ (simple_begins depth s rest) refl e
 
-no_name : (depth : ℕ) (all : Bool) (t : Tok) → next_name t ≡ None → (f : Formula) (rest : List Occurrence) (us : List Tok) → tokens_of (formula depth f rest) ≡ Some (quantifier_token all) ∷ t ∷ us → ⊥
-no_name depth all t n (quantified q x s) rest us e = let g : Some (token.Name x) ≡ t = cc in let w : Some x ≡ None = ap next_name g ∙ n in absurd cc
-no_name depth all t n (open_formula s) rest us e = not_quantified depth all s rest (t ∷ us) e
+no_name : (depth : ℕ) (quantifier : Quantifier) (t : Tok) → next_name t ≡ None → (f : Formula) (rest : List Occurrence) (us : List Tok) → tokens_of (formula depth f rest) ≡ Some (quantifier_token quantifier) ∷ t ∷ us → ⊥
+no_name depth quantifier t n (quantified q x s) rest us e = let g : Some (token.Name x) ≡ t = cc in let w : Some x ≡ None = ap next_name g ∙ n in absurd cc
+no_name depth quantifier t n (open_formula s) rest us e = not_quantified depth quantifier s rest (t ∷ us) e
 
-pub name_missing : (depth : ℕ) (all : Bool) (old mid : List Located) (b : ℕ) → with_end old ≡ Some (quantifier_token all) ∷ with_end mid → next_name (head mid) ≡ None → IsStopped (formula depth) on_simple Syntax (with_end old) (with_end mid) b
-name_missing depth all old mid b h n =
+pub name_missing : (depth : ℕ) (quantifier : Quantifier) (old mid : List Located) (b : ℕ) → with_end old ≡ Some (quantifier_token quantifier) ∷ with_end mid → next_name (head mid) ≡ None → IsStopped (formula depth) on_simple Syntax (with_end old) (with_end mid) b
+name_missing depth quantifier old mid b h n =
     let w = some_first mid in
     let x : Name = record { start = 0; end = 0 } in
-    refused_at (formula depth) on_simple (quantified all x (body (open_formula some_simple))) (plain (quantifier_token all) ∷ []) (opener (token.Name x) depth true ∷ plain token.Dot ∷ word token.True true ∷ []) (head mid) (with_end old) (with_end mid) w.0 b refl h w.1 ((quantifier_clean b all).0, tt)
-    (λ f rest us st e. no_name depth all (head mid) n f rest us e)
+    refused_at (formula depth) on_simple (quantified quantifier x (body (open_formula some_simple))) (plain (quantifier_token quantifier) ∷ []) (opener (token.Name x) depth true ∷ plain token.Dot ∷ word token.True true ∷ []) (head mid) (with_end old) (with_end mid) w.0 b refl h w.1 ((quantifier_clean b quantifier).0, tt)
+    (λ f rest us st e. no_name depth quantifier (head mid) n f rest us e)
 
 goes_open : (depth : ℕ) (h : Tok) → next_quantifier h ≡ None → GoesFrom (simple depth) on_simple (formula depth) on_simple h
-goes_open depth h n (quantified true x s) rest ts st e = let g : Some token.All ≡ h = cc in let w : Some true ≡ None = ap next_quantifier g ∙ n in absurd cc
-goes_open depth h n (quantified false x s) rest ts st e = let g : Some token.Ex ≡ h = cc in let w : Some false ≡ None = ap next_quantifier g ∙ n in absurd cc
+goes_open depth h n (quantified quantifiers.All x s) rest ts st e = let g : Some token.All ≡ h = cc in let w : Some quantifiers.All ≡ None = ap next_quantifier g ∙ n in absurd cc
+goes_open depth h n (quantified quantifiers.Ex x s) rest ts st e = let g : Some token.Ex ≡ h = cc in let w : Some quantifiers.Ex ≡ None = ap next_quantifier g ∙ n in absurd cc
 goes_open depth h n (open_formula s) rest ts st e = (s, rest, st, e)
 
-pub simple_through : (depth : ℕ) (result : Result code.Formula Stop) (old new : List Located) (b c : ℕ) → next_quantifier (head old) ≡ None → Reads (simple depth) on_simple simple_tree tree_of result (with_end old) (with_end new) b c → Reads (formula depth) on_simple formula_tree tree_of result (with_end old) (with_end new) b c
+pub simple_through : (depth : ℕ) (result : Result code.Formula (Halt TextFault)) (old new : List Located) (b c : ℕ) → next_quantifier (head old) ≡ None → Reads (simple depth) on_simple simple_tree tree_of result (with_end old) (with_end new) b c → Reads (formula depth) on_simple formula_tree tree_of result (with_end old) (with_end new) b c
 simple_through depth (Ok f) old new b c n r = record { found = open_formula r.found; is = r.is; spelled = r.spelled; clean = r.clean; count = r.count; stops = r.stops }
-simple_through depth (Err stop.OutOfMemory) old new b c n r = tt
-simple_through depth (Err (stop.Limit f)) old new b c n r = from_first (simple depth) on_simple (formula depth) on_simple (head old) open_formula (λ a. refl) (goes_open depth (head old) n) f (with_end old) (with_end new) b (first_head old) r
+simple_through depth (Err halt.OutOfMemory) old new b c n r = tt
+simple_through depth (Err (halt.Limit f)) old new b c n r = from_first (simple depth) on_simple (formula depth) on_simple (head old) open_formula (λ a. refl) (goes_open depth (head old) n) f (with_end old) (with_end new) b (first_head old) r
 
 -- a fault of a bound name is no syntax fault
 if_bound : (deep many : Bool) (f : TextFault) → (if deep then Some TooDeep else if many then Some TooMany else None) ≡ Some f → (f ≡ TooDeep) ⊎ (f ≡ TooMany)
@@ -400,36 +404,36 @@ if_bound false false f h = absurd cc
 bound_first : (depth b : ℕ) (f : TextFault) → bound_fault depth b ≡ Some f → IsValue f
 bound_first depth b f h = elim (if_bound (nat_le 256 depth) (nat_le 65536 b) f h) [ inl e ↦ subst (λ (g : TextFault). IsValue g) (sym e) tt | inr e ↦ subst (λ (g : TextFault). IsValue g) (sym e) tt ]
 
-pub bind_err : (depth : ℕ) (all : Bool) (x : Name) (e : Stop) (old mid new : List Located) (b d : ℕ) → with_end old ≡ Some (quantifier_token all) ∷ with_end mid → next_name (head mid) ≡ Some x
+pub bind_err : (depth : ℕ) (quantifier : Quantifier) (x : Name) (e : Halt TextFault) (old mid new : List Located) (b d : ℕ) → with_end old ≡ Some (quantifier_token quantifier) ∷ with_end mid → next_name (head mid) ≡ Some x
     → Binds depth (Err e) (head mid) (with_end mid) (with_end new) b d → Reads (formula depth) on_simple formula_tree tree_of (Err e) (with_end old) (with_end new) b d
-bind_err depth all x stop.OutOfMemory old mid new b d h n s = tt
-bind_err depth all x (stop.Limit f) old mid new b d h n s =
+bind_err depth quantifier x halt.OutOfMemory old mid new b d h n s = tt
+bind_err depth quantifier x (halt.Limit f) old mid new b d h n s =
     let w = at_head mid (token.Name x) (name_head (head mid) x n) in
-    stops_at (formula depth) on_simple (quantified all x (body (open_formula some_simple))) (plain (quantifier_token all) ∷ []) (opener (token.Name x) depth true) (plain token.Dot ∷ word token.True true ∷ []) f (with_end old) (with_end new) w.0 b refl
-    (h ∙ ap (λ (y : List Tok). Some (quantifier_token all) ∷ y) (sym s.0)) (s.0 ∙ w.1) ((quantifier_clean b all).0, tt) (bound_first depth b f s.1) (ap (λ (n : ℕ). bound_fault depth n) (quantifier_clean b all).1 ∙ s.1)
+    stops_at (formula depth) on_simple (quantified quantifier x (body (open_formula some_simple))) (plain (quantifier_token quantifier) ∷ []) (opener (token.Name x) depth true) (plain token.Dot ∷ word token.True true ∷ []) f (with_end old) (with_end new) w.0 b refl
+    (h ∙ ap (λ (y : List Tok). Some (quantifier_token quantifier) ∷ y) (sym s.0)) (s.0 ∙ w.1) ((quantifier_clean b quantifier).0, tt) (bound_first depth b f s.1) (ap (λ (n : ℕ). bound_fault depth n) (quantifier_clean b quantifier).1 ∙ s.1)
 
-goes_scope : (depth : ℕ) (all : Bool) (x : Name) → GoesOn (scope (depth + 1)) on_simple (formula depth) on_simple (plain (quantifier_token all) ∷ opener (token.Name x) depth true ∷ [])
-goes_scope depth all x (quantified q y s) rest ts st e = (s, rest, st, cc)
-goes_scope depth all x (open_formula s) rest ts st e = absurd (not_quantified depth all s rest _ e)
+goes_scope : (depth : ℕ) (quantifier : Quantifier) (x : Name) → GoesOn (scope (depth + 1)) on_simple (formula depth) on_simple (plain (quantifier_token quantifier) ∷ opener (token.Name x) depth true ∷ [])
+goes_scope depth quantifier x (quantified q y s) rest ts st e = (s, rest, st, cc)
+goes_scope depth quantifier x (open_formula s) rest ts st e = absurd (not_quantified depth quantifier s rest _ e)
 
-pub scope_err : (depth : ℕ) (all : Bool) (x : Name) (e : Stop) (old mid mid' new : List Located) (b c d : ℕ) → with_end old ≡ Some (quantifier_token all) ∷ with_end mid → next_name (head mid) ≡ Some x
-    → Binds depth (Ok tt) (head mid) (with_end mid) (with_end mid') b c → Reads (scope (depth + 1)) on_simple (scope_tree all) tree_of (Err e) (with_end mid') (with_end new) c d
+pub scope_err : (depth : ℕ) (quantifier : Quantifier) (x : Name) (e : Halt TextFault) (old mid mid' new : List Located) (b c d : ℕ) → with_end old ≡ Some (quantifier_token quantifier) ∷ with_end mid → next_name (head mid) ≡ Some x
+    → Binds depth (Ok tt) (head mid) (with_end mid) (with_end mid') b c → Reads (scope (depth + 1)) on_simple (scope_tree quantifier) tree_of (Err e) (with_end mid') (with_end new) c d
     → Reads (formula depth) on_simple formula_tree tree_of (Err e) (with_end old) (with_end new) b d
-scope_err depth all x e old mid mid' new b c d h n s r =
-    within_err (scope (depth + 1)) on_simple (formula depth) on_simple (scope_tree all) formula_tree tree_of tree_of (scope-append (depth + 1)) (plain (quantifier_token all) ∷ opener (token.Name x) depth true ∷ []) [] (quantified all x) (λ a. refl) (goes_scope depth all x)
+scope_err depth quantifier x e old mid mid' new b c d h n s r =
+    within_err (scope (depth + 1)) on_simple (formula depth) on_simple (scope_tree quantifier) formula_tree tree_of tree_of (scope-append (depth + 1)) (plain (quantifier_token quantifier) ∷ opener (token.Name x) depth true ∷ []) [] (quantified quantifier x) (λ a. refl) (goes_scope depth quantifier x)
     e (with_end old) (with_end mid') (with_end new) b c d d
-    (h ∙ ap (λ (y : List Tok). Some (quantifier_token all) ∷ y) (s.0 ∙ ap (λ (t : Tok). t ∷ with_end mid') (name_head (head mid) x n)))
-    ((quantifier_clean b all).0, (ap (λ (n : ℕ). bound_fault depth n) (quantifier_clean b all).1 ∙ s.2, tt)) (ap (λ (k : ℕ). k + 1) (quantifier_clean b all).1 ∙ sym s.1) r
+    (h ∙ ap (λ (y : List Tok). Some (quantifier_token quantifier) ∷ y) (s.0 ∙ ap (λ (t : Tok). t ∷ with_end mid') (name_head (head mid) x n)))
+    ((quantifier_clean b quantifier).0, (ap (λ (n : ℕ). bound_fault depth n) (quantifier_clean b quantifier).1 ∙ s.2, tt)) (ap (λ (k : ℕ). k + 1) (quantifier_clean b quantifier).1 ∙ sym s.1) r
 
-pub read_quantified : (depth : ℕ) (all : Bool) (x : Name) (value inner : FormulaTree) (old mid mid' new : List Located) (b c d : ℕ) → value ≡ bound all x inner → with_end old ≡ Some (quantifier_token all) ∷ with_end mid → next_name (head mid) ≡ Some x
-    → Binds depth (Ok tt) (head mid) (with_end mid) (with_end mid') b c → IsRead (scope (depth + 1)) on_simple (scope_tree all) inner (with_end mid') (with_end new) c d → IsRead (formula depth) on_simple formula_tree value (with_end old) (with_end new) b d
-read_quantified depth all x value inner old mid mid' new b c d is h n s r =
-    let count : counted b (plain (quantifier_token all) ∷ opener (token.Name x) depth true ∷ []) ≡ c = ap (λ (k : ℕ). k + 1) (quantifier_clean b all).1 ∙ sym s.1 in
+pub read_quantified : (depth : ℕ) (quantifier : Quantifier) (x : Name) (value inner : FormulaTree) (old mid mid' new : List Located) (b c d : ℕ) → value ≡ bound quantifier x inner → with_end old ≡ Some (quantifier_token quantifier) ∷ with_end mid → next_name (head mid) ≡ Some x
+    → Binds depth (Ok tt) (head mid) (with_end mid) (with_end mid') b c → IsRead (scope (depth + 1)) on_simple (scope_tree quantifier) inner (with_end mid') (with_end new) c d → IsRead (formula depth) on_simple formula_tree value (with_end old) (with_end new) b d
+read_quantified depth quantifier x value inner old mid mid' new b c d is h n s r =
+    let count : counted b (plain (quantifier_token quantifier) ∷ opener (token.Name x) depth true ∷ []) ≡ c = ap (λ (k : ℕ). k + 1) (quantifier_clean b quantifier).1 ∙ sym s.1 in
     record {
-      found = quantified all x r.found;
-      is = ap (bound all x) r.is ∙ sym is;
-      spelled = h ∙ ap (λ (y : List Tok). Some (quantifier_token all) ∷ y) (s.0 ∙ ap (λ (t : Tok). t ∷ with_end mid') (name_head (head mid) x n) ∙ ap (λ (y : List Tok). Some (token.Name x) ∷ y) r.spelled);
-      clean = ((quantifier_clean b all).0, (ap (λ (n : ℕ). bound_fault depth n) (quantifier_clean b all).1 ∙ s.2, subst (λ (k : ℕ). IsClean k (scope (depth + 1) r.found [])) (sym count) r.clean));
+      found = quantified quantifier x r.found;
+      is = ap (bound quantifier x) r.is ∙ sym is;
+      spelled = h ∙ ap (λ (y : List Tok). Some (quantifier_token quantifier) ∷ y) (s.0 ∙ ap (λ (t : Tok). t ∷ with_end mid') (name_head (head mid) x n) ∙ ap (λ (y : List Tok). Some (token.Name x) ∷ y) r.spelled);
+      clean = ((quantifier_clean b quantifier).0, (ap (λ (n : ℕ). bound_fault depth n) (quantifier_clean b quantifier).1 ∙ s.2, subst (λ (k : ℕ). IsClean k (scope (depth + 1) r.found [])) (sym count) r.clean));
       count = ap (λ (k : ℕ). counted k (scope (depth + 1) r.found [])) count ∙ r.count;
       stops = r.stops;
     }
@@ -440,23 +444,23 @@ no_dot : (depth : ℕ) (t : Tok) (ts : List Tok) → next_name t ≡ None → ((
 no_dot depth t ts n bad (further x s) rest us e = let g : Some (token.Name x) ≡ t = cc in let w : Some x ≡ None = ap next_name g ∙ n in absurd cc
 no_dot depth t ts n bad (body f) rest us e = let g : Some token.Dot ≡ t = cc in bad ts (ap (λ (v : Tok). v ∷ ts) (sym g))
 
-pub dot_err : (depth : ℕ) (all : Bool) (e : Stop) (old new : List Located) (b c : ℕ) → next_name (head old) ≡ None → Takes token.Dot (Err e) (with_end old) (with_end new) → Reads (scope depth) on_simple (scope_tree all) tree_of (Err e) (with_end old) (with_end new) b c
-dot_err depth all stop.OutOfMemory old new b c n s = tt
-dot_err depth all (stop.Limit Syntax) old new b c n s =
+pub dot_err : (depth : ℕ) (quantifier : Quantifier) (e : Halt TextFault) (old new : List Located) (b c : ℕ) → next_name (head old) ≡ None → Takes token.Dot (Err e) (with_end old) (with_end new) → Reads (scope depth) on_simple (scope_tree quantifier) tree_of (Err e) (with_end old) (with_end new) b c
+dot_err depth quantifier halt.OutOfMemory old new b c n s = tt
+dot_err depth quantifier (halt.Limit Syntax) old new b c n s =
     let w = some_first old in
     refused_at (scope depth) on_simple (body (open_formula some_simple)) [] (plain token.Dot ∷ word token.True true ∷ []) (head old) (with_end old) (with_end new) w.0 b refl (sym s.0) (s.0 ∙ w.1) tt
     (λ a rest us st e. no_dot depth (head old) w.0 n (λ vs f. s.1 vs (w.1 ∙ f)) a rest us e)
-dot_err depth all (stop.Limit Wide) old new b c n s = absurd s
-dot_err depth all (stop.Limit Exponent) old new b c n s = absurd s
-dot_err depth all (stop.Limit TooDeep) old new b c n s = absurd s
-dot_err depth all (stop.Limit TooMany) old new b c n s = absurd s
+dot_err depth quantifier (halt.Limit Wide) old new b c n s = absurd s
+dot_err depth quantifier (halt.Limit Exponent) old new b c n s = absurd s
+dot_err depth quantifier (halt.Limit TooDeep) old new b c n s = absurd s
+dot_err depth quantifier (halt.Limit TooMany) old new b c n s = absurd s
 
 goes_body : (depth : ℕ) → GoesOn (formula depth) on_simple (scope depth) on_simple (plain token.Dot ∷ [])
 goes_body depth (further x s) rest ts st e = absurd cc
 goes_body depth (body f) rest ts st e = (f, rest, st, cc)
 
-pub body_through : (depth : ℕ) (all : Bool) (result : Result code.Formula Stop) (old mid new : List Tok) (b c : ℕ) → Takes token.Dot (Ok tt) old mid → Reads (formula depth) on_simple formula_tree tree_of result mid new b c → Reads (scope depth) on_simple (scope_tree all) tree_of result old new b c
-body_through depth all (Ok f) old mid new b c h r = record {
+pub body_through : (depth : ℕ) (quantifier : Quantifier) (result : Result code.Formula (Halt TextFault)) (old mid new : List Tok) (b c : ℕ) → Takes token.Dot (Ok tt) old mid → Reads (formula depth) on_simple formula_tree tree_of result mid new b c → Reads (scope depth) on_simple (scope_tree quantifier) tree_of result old new b c
+body_through depth quantifier (Ok f) old mid new b c h r = record {
   found = body r.found;
   is = r.is;
   spelled = h ∙ ap (λ (x : List Tok). Some token.Dot ∷ x) r.spelled;
@@ -464,12 +468,12 @@ body_through depth all (Ok f) old mid new b c h r = record {
   count = r.count;
   stops = r.stops;
 }
-body_through depth all (Err e) old mid new b c h r =
-    within_err (formula depth) on_simple (scope depth) on_simple formula_tree (scope_tree all) tree_of tree_of (formula-append depth) (plain token.Dot ∷ []) [] body (λ a. refl) (goes_body depth) e old mid new b b c c h (refl, tt) refl r
+body_through depth quantifier (Err e) old mid new b c h r =
+    within_err (formula depth) on_simple (scope depth) on_simple formula_tree (scope_tree quantifier) tree_of tree_of (formula-append depth) (plain token.Dot ∷ []) [] body (λ a. refl) (goes_body depth) e old mid new b b c c h (refl, tt) refl r
 
-pub further_err : (depth : ℕ) (all : Bool) (x : Name) (e : Stop) (old new : List Located) (b d : ℕ) → next_name (head old) ≡ Some x → Binds depth (Err e) (head old) (with_end old) (with_end new) b d → Reads (scope depth) on_simple (scope_tree all) tree_of (Err e) (with_end old) (with_end new) b d
-further_err depth all x stop.OutOfMemory old new b d n s = tt
-further_err depth all x (stop.Limit f) old new b d n s =
+pub further_err : (depth : ℕ) (quantifier : Quantifier) (x : Name) (e : Halt TextFault) (old new : List Located) (b d : ℕ) → next_name (head old) ≡ Some x → Binds depth (Err e) (head old) (with_end old) (with_end new) b d → Reads (scope depth) on_simple (scope_tree quantifier) tree_of (Err e) (with_end old) (with_end new) b d
+further_err depth quantifier x halt.OutOfMemory old new b d n s = tt
+further_err depth quantifier x (halt.Limit f) old new b d n s =
     let w = at_head old (token.Name x) (name_head (head old) x n) in
     stops_at (scope depth) on_simple (further x (body (open_formula some_simple))) [] (opener (token.Name x) depth true) (plain token.Dot ∷ word token.True true ∷ []) f (with_end old) (with_end new) w.0 b refl
     (sym s.0) (s.0 ∙ w.1) tt (bound_first depth b f s.1) s.1
@@ -478,17 +482,17 @@ goes_further : (depth : ℕ) (x : Name) → GoesOn (scope (depth + 1)) on_simple
 goes_further depth x (further y s) rest ts st e = (s, rest, st, cc)
 goes_further depth x (body f) rest ts st e = absurd cc
 
-pub inner_err : (depth : ℕ) (all : Bool) (x : Name) (e : Stop) (old mid new : List Located) (b c d : ℕ) → next_name (head old) ≡ Some x → Binds depth (Ok tt) (head old) (with_end old) (with_end mid) b c
-    → Reads (scope (depth + 1)) on_simple (scope_tree all) tree_of (Err e) (with_end mid) (with_end new) c d → Reads (scope depth) on_simple (scope_tree all) tree_of (Err e) (with_end old) (with_end new) b d
-inner_err depth all x e old mid new b c d n s r =
-    within_err (scope (depth + 1)) on_simple (scope depth) on_simple (scope_tree all) (scope_tree all) tree_of tree_of (scope-append (depth + 1)) (opener (token.Name x) depth true ∷ []) [] (further x) (λ a. refl) (goes_further depth x)
+pub inner_err : (depth : ℕ) (quantifier : Quantifier) (x : Name) (e : Halt TextFault) (old mid new : List Located) (b c d : ℕ) → next_name (head old) ≡ Some x → Binds depth (Ok tt) (head old) (with_end old) (with_end mid) b c
+    → Reads (scope (depth + 1)) on_simple (scope_tree quantifier) tree_of (Err e) (with_end mid) (with_end new) c d → Reads (scope depth) on_simple (scope_tree quantifier) tree_of (Err e) (with_end old) (with_end new) b d
+inner_err depth quantifier x e old mid new b c d n s r =
+    within_err (scope (depth + 1)) on_simple (scope depth) on_simple (scope_tree quantifier) (scope_tree quantifier) tree_of tree_of (scope-append (depth + 1)) (opener (token.Name x) depth true ∷ []) [] (further x) (λ a. refl) (goes_further depth x)
     e (with_end old) (with_end mid) (with_end new) b c d d (s.0 ∙ ap (λ (t : Tok). t ∷ with_end mid) (name_head (head old) x n)) (s.2, tt) (sym s.1) r
 
-pub read_further : (depth : ℕ) (all : Bool) (x : Name) (value inner : FormulaTree) (old mid new : List Located) (b c d : ℕ) → value ≡ bound all x inner → next_name (head old) ≡ Some x → Binds depth (Ok tt) (head old) (with_end old) (with_end mid) b c
-    → IsRead (scope (depth + 1)) on_simple (scope_tree all) inner (with_end mid) (with_end new) c d → IsRead (scope depth) on_simple (scope_tree all) value (with_end old) (with_end new) b d
-read_further depth all x value inner old mid new b c d is n s r = record {
+pub read_further : (depth : ℕ) (quantifier : Quantifier) (x : Name) (value inner : FormulaTree) (old mid new : List Located) (b c d : ℕ) → value ≡ bound quantifier x inner → next_name (head old) ≡ Some x → Binds depth (Ok tt) (head old) (with_end old) (with_end mid) b c
+    → IsRead (scope (depth + 1)) on_simple (scope_tree quantifier) inner (with_end mid) (with_end new) c d → IsRead (scope depth) on_simple (scope_tree quantifier) value (with_end old) (with_end new) b d
+read_further depth quantifier x value inner old mid new b c d is n s r = record {
   found = further x r.found;
-  is = ap (bound all x) r.is ∙ sym is;
+  is = ap (bound quantifier x) r.is ∙ sym is;
   spelled = s.0 ∙ ap (λ (t : Tok). t ∷ with_end mid) (name_head (head old) x n) ∙ ap (λ (y : List Tok). Some (token.Name x) ∷ y) r.spelled;
   clean = (s.2, subst (λ (k : ℕ). IsClean k (scope (depth + 1) r.found [])) s.1 r.clean);
   count = ap (λ (k : ℕ). counted k (scope (depth + 1) r.found [])) (sym s.1) ∙ r.count;

@@ -1,7 +1,8 @@
 -- The parts of an And or of an Or, read one after the other.
 use Rattle.std.proofs.Common.{◌≡◌, ℕ, Bool, true, false, List, [], ◌∷◌, ◌++◌, refl, sym, ap, ◌∙◌}
 use Rattle.std.specs.Prelude.{Err, Ok, Result}
-use Rattle.qe_syntax.specs.declared.fault.Stop.{Stop}
+use Rattle.qe_syntax.specs.declared.fault.TextFault.{TextFault}
+use Rattle.qe_halt.specs.declared.halt.Halt.{Halt}
 use Rattle.qe_syntax.specs.declared.tree.Formula as code
 use Rattle.qe_syntax.specs.Tree.{FormulaTree, FormulaTrees, more}
 use Rattle.qe_syntax.specs.Code.{tree_of, as_parts}
@@ -58,15 +59,15 @@ more_snoc [] f goes = tt
 more_snoc (x ∷ xs) f goes = tt
 
 module _ {A X : Type 0} (k : Parts A X) where
-  parts_exit : (result : Result code.Formula Stop) (old new : List Tok) (b c : ℕ) → Reads (chain k.spell k.mark) k.on' (chain_tree k.of part_item (whole k.node)) tree_of result old new b c → Reads k.spell' k.on' k.of' tree_of result old new b c
+  parts_exit : (result : Result code.Formula (Halt TextFault)) (old new : List Tok) (b c : ℕ) → Reads (chain k.spell k.mark) k.on' (chain_tree k.of part_item (whole k.node)) tree_of result old new b c → Reads k.spell' k.on' k.of' tree_of result old new b c
   parts_exit result old new b c r =
       recast (chain k.spell k.mark) k.spell' k.on' k.to k.from k.to-spells k.from-spells (chain_tree k.of part_item (whole k.node)) k.of' tree_of k.to-tree
       (chain-append k.spell k.on k.on' k.mark k.of part_item k.append k.one k.clean k.stops k.goes k.weak) result old new b c r
 
-  pub parts_first_err : (e : Stop) (old new : List Tok) (b c : ℕ) → Reads k.spell k.on k.of tree_of (Err e) old new b c → Reads k.spell' k.on' k.of' tree_of (Err e) old new b c
+  pub parts_first_err : (e : Halt TextFault) (old new : List Tok) (b c : ℕ) → Reads k.spell k.on k.of tree_of (Err e) old new b c → Reads k.spell' k.on' k.of' tree_of (Err e) old new b c
   parts_first_err e old new b c r = parts_exit (Err e) old new b c (first_err k.spell k.on k.on' k.mark k.of part_item k.append k.one k.clean k.stops k.goes k.weak tree_of tree_of (chain_tree k.of part_item (whole k.node)) e old new b c r)
 
-  pub parts_turn_err : (e : Stop) (parts : List FormulaTree) (goes : Bool) (old mid mid' new : List Tok) (b c d : ℕ) → mid ≡ (k.mark tt).token ∷ mid' → IsParts k parts goes old mid b c → Reads k.spell k.on k.of tree_of (Err e) mid' new c d → Reads k.spell' k.on' k.of' tree_of (Err e) old new b d
+  pub parts_turn_err : (e : Halt TextFault) (parts : List FormulaTree) (goes : Bool) (old mid mid' new : List Tok) (b c d : ℕ) → mid ≡ (k.mark tt).token ∷ mid' → IsParts k parts goes old mid b c → Reads k.spell k.on k.of tree_of (Err e) mid' new c d → Reads k.spell' k.on' k.of' tree_of (Err e) old new b d
   parts_turn_err e parts goes old mid mid' new b c d m p r = parts_exit (Err e) old new b d (turn_err k.spell k.on k.on' k.mark k.of part_item k.append k.one k.clean k.stops k.goes k.weak tree_of tree_of (chain_tree k.of part_item (whole k.node)) tt e p.first p.later old mid mid' new b c d m p.read r)
 
   pub parts_alone : (f : code.Formula) (old new : List Tok) (b c : ℕ) → Stops k.on' new → IsRead k.spell k.on k.of (tree_of f) old new b c → IsRead k.spell' k.on' k.of' (tree_of f) old new b c

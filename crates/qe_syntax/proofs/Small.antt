@@ -3,6 +3,11 @@ use Rattle.std.proofs.Common.{◌≡◌, ℕ, ◌+◌, ◌≤◌, Bool, true, fa
 use Rattle.std.specs.Prelude.{if◌then◌else◌}
 use Rattle.std.proofs.lemmas.Bool.Decides.{nat_tests}
 use Rattle.qe_token.specs.declared.token.Located.{Located}
+use Rattle.qe_syntax.specs.declared.formula.Quantifier.{Quantifier}
+use Rattle.qe_syntax.specs.declared.formula.Quantifier.TheVariants as quantifiers
+use Rattle.qe_syntax.specs.declared.formula.Arrow.{Arrow}
+use Rattle.qe_syntax.specs.declared.formula.Arrow.TheVariants as arrows
+use Rattle.qe_syntax.specs.declared.fault.TextFault.{TextFault}
 use Rattle.qe_syntax.specs.declared.fault.TextFault.TheVariants.{Wide, Exponent, TooDeep, TooMany}
 use Rattle.qe_syntax.specs.Tree.{TermTree, Addends, no_addend, addend, Factors, no_factor, factor, FormulaTree, FormulaTrees, no_more, more}
 use Rattle.qe_syntax.specs.Grammar.{Term, Sums, Product, Times, Signed, Power, Primary, Atom, sum, no_sum, sign, factors, no_times, times, negative, positive, base, raised, number, name, group, compare, Formula, Scope, Simple, Disj, Ors, Conj, Ands, Unary, quantified, open_formula, further, body, alone, joined, ors, no_or, or, ands, no_and, and, not, constant, bracket, atom, Occurrence, the_end, term, sums, product, timeses, signed, power, primary, comparison, formula, scope, simple, disj, orses, conj, andses, unary, input, tokens_of, with_end, term_tree, sums_tree, product_tree, times_tree, signed_tree, power_tree, primary_tree, atom_tree, formula_tree, scope_tree, simple_tree, disj_tree, ors_trees, conj_tree, ands_trees, unary_tree, sum_of, product_of, conjoined, disjoined, bound, linked, constant_tree}
@@ -67,13 +72,13 @@ small_comparison depth (compare t at k u) r h =
     let w = small_term depth true t _ h in
     let v = small_term depth false u r w.1.1 in ((w.0, v.0), v.1)
 
-small_bound : (all : Bool) (f : FormulaTree) → IsSmall f → (x : _) → IsSmall (bound all x f)
-small_bound true f h x = h
-small_bound false f h x = h
+small_bound : (quantifier : Quantifier) (f : FormulaTree) → IsSmall f → (x : _) → IsSmall (bound quantifier x f)
+small_bound quantifiers.Ex f h x = h
+small_bound quantifiers.All f h x = h
 
-small_linked : (both : Bool) (f g : FormulaTree) → IsSmall f → IsSmall g → IsSmall (linked both f g)
-small_linked true f g h k = (h, k)
-small_linked false f g h k = (h, k)
+small_linked : (arrow : Arrow) (f g : FormulaTree) → IsSmall f → IsSmall g → IsSmall (linked arrow f g)
+small_linked arrows.Implies f g h k = (h, k)
+small_linked arrows.Iff f g h k = (h, k)
 
 small_constant : (value : Bool) → IsSmall (constant_tree value)
 small_constant true = tt
@@ -89,18 +94,18 @@ small_disjoined f (more g gs) h k = (h, k)
 
 mutual
   small_formula : (depth : ℕ) (f : Formula) (r : List Occurrence) → NoWide (formula depth f r) → IsSmall (formula_tree f) × NoWide r
-  small_formula depth (quantified all x s) r h = let w = small_scope (depth + 1) all s r h.1.1 in (small_bound all (scope_tree all s) w.0 x, w.1)
+  small_formula depth (quantified quantifier x s) r h = let w = small_scope (depth + 1) quantifier s r h.1.1 in (small_bound quantifier (scope_tree quantifier s) w.0 x, w.1)
   small_formula depth (open_formula s) r h = small_simple depth s r h
 
-  small_scope : (depth : ℕ) (all : Bool) (s : Scope) (r : List Occurrence) → NoWide (scope depth s r) → IsSmall (scope_tree all s) × NoWide r
-  small_scope depth all (further x s) r h = let w = small_scope (depth + 1) all s r h.1 in (small_bound all (scope_tree all s) w.0 x, w.1)
-  small_scope depth all (body f) r h = small_formula depth f r h.1
+  small_scope : (depth : ℕ) (quantifier : Quantifier) (s : Scope) (r : List Occurrence) → NoWide (scope depth s r) → IsSmall (scope_tree quantifier s) × NoWide r
+  small_scope depth quantifier (further x s) r h = let w = small_scope (depth + 1) quantifier s r h.1 in (small_bound quantifier (scope_tree quantifier s) w.0 x, w.1)
+  small_scope depth quantifier (body f) r h = small_formula depth f r h.1
 
   small_simple : (depth : ℕ) (s : Simple) (r : List Occurrence) → NoWide (simple depth s r) → IsSmall (simple_tree s) × NoWide r
   small_simple depth (alone d) r h = small_disj depth d r h
-  small_simple depth (joined both d e) r h =
+  small_simple depth (joined arrow d e) r h =
       let w = small_disj depth d _ h in
-      let v = small_disj depth e r w.1.1 in (small_linked both (disj_tree d) (disj_tree e) w.0 v.0, v.1)
+      let v = small_disj depth e r w.1.1 in (small_linked arrow (disj_tree d) (disj_tree e) w.0 v.0, v.1)
 
   small_disj : (depth : ℕ) (d : Disj) (r : List Occurrence) → NoWide (disj depth d r) → IsSmall (disj_tree d) × NoWide r
   small_disj depth (ors c cs) r h =

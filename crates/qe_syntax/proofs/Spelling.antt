@@ -2,6 +2,10 @@
 use Rattle.std.proofs.Common.{◌≡◌, ℕ, ◌+◌, Bool, true, false, List, [], ◌∷◌, ◌++◌, Some, None, refl, sym, ap, subst, ◌∙◌}
 use Rattle.qe_token.specs.declared.token.Token.TheVariants as token
 use Rattle.qe_token.specs.declared.token.Name.{Name}
+use Rattle.qe_syntax.specs.declared.formula.Quantifier.{Quantifier}
+use Rattle.qe_syntax.specs.declared.formula.Quantifier.TheVariants as quantifiers
+use Rattle.qe_syntax.specs.declared.formula.Arrow.{Arrow}
+use Rattle.qe_syntax.specs.declared.formula.Arrow.TheVariants as arrows
 use Rattle.qe_syntax.specs.Grammar.{Term, Sums, Product, Times, Signed, Power, Primary, Atom, sum, no_sum, sign, factors, no_times, times, negative, positive, base, raised, number, name, group, compare, exponent, literal, Occurrence, plain, opener, figure, word, plus_or_minus, is_name, term, sums, product, timeses, signed, power, primary, comparison, tokens_of}
 use Rattle.qe_syntax.specs.Grammar.{Formula, Scope, Simple, Disj, Ors, Conj, Ands, Unary, quantified, open_formula, further, body, alone, joined, ors, no_or, or, ands, no_and, and, not, constant, bracket, atom, quantifier_token, arrow_token, constant_token, formula, scope, simple, disj, orses, conj, andses, unary}
 use Rattle.qe_syntax.specs.Faults.{Tok}
@@ -54,7 +58,7 @@ comparison-append depth (compare t at k u) r q =
 
 mutual
   pub formula-append : (depth : ℕ) (f : Formula) (r q : List Occurrence) → formula depth f (r ++ q) ≡ formula depth f r ++ q
-  formula-append depth (quantified all x s) r q = ap (λ (ms : List Occurrence). plain (quantifier_token all) ∷ opener (token.Name x) depth true ∷ ms) (scope-append (depth + 1) s r q)
+  formula-append depth (quantified quantifier x s) r q = ap (λ (ms : List Occurrence). plain (quantifier_token quantifier) ∷ opener (token.Name x) depth true ∷ ms) (scope-append (depth + 1) s r q)
   formula-append depth (open_formula s) r q = simple-append depth s r q
 
   pub scope-append : (depth : ℕ) (s : Scope) (r q : List Occurrence) → scope depth s (r ++ q) ≡ scope depth s r ++ q
@@ -63,7 +67,7 @@ mutual
 
   pub simple-append : (depth : ℕ) (s : Simple) (r q : List Occurrence) → simple depth s (r ++ q) ≡ simple depth s r ++ q
   simple-append depth (alone d) r q = disj-append depth d r q
-  simple-append depth (joined both d e) r q = ap (λ (ms : List Occurrence). disj depth d (plain (arrow_token both) ∷ ms)) (disj-append depth e r q) ∙ disj-append depth d (plain (arrow_token both) ∷ disj depth e r) q
+  simple-append depth (joined arrow d e) r q = ap (λ (ms : List Occurrence). disj depth d (plain (arrow_token arrow) ∷ ms)) (disj-append depth e r q) ∙ disj-append depth d (plain (arrow_token arrow) ∷ disj depth e r) q
 
   pub disj-append : (depth : ℕ) (d : Disj) (r q : List Occurrence) → disj depth d (r ++ q) ≡ disj depth d r ++ q
   disj-append depth (ors c cs) r q = ap (conj depth c) (orses-append depth cs r q) ∙ conj-append depth c (orses depth cs r) q
@@ -121,13 +125,13 @@ pub sign_goes : (at : ℕ) (minus : Bool) → on_term (Some (plus_or_minus at mi
 sign_goes at true = refl
 sign_goes at false = refl
 
-pub arrow_stops : (both : Bool) → on_disj (Some (arrow_token both)) ≡ false
-arrow_stops true = refl
-arrow_stops false = refl
+pub arrow_stops : (arrow : Arrow) → on_disj (Some (arrow_token arrow)) ≡ false
+arrow_stops arrows.Implies = refl
+arrow_stops arrows.Iff = refl
 
-pub arrow_goes : (both : Bool) → on_simple (Some (arrow_token both)) ≡ true
-arrow_goes true = refl
-arrow_goes false = refl
+pub arrow_goes : (arrow : Arrow) → on_simple (Some (arrow_token arrow)) ≡ true
+arrow_goes arrows.Implies = refl
+arrow_goes arrows.Iff = refl
 
 pub one_sign : (p q : ℕ) (m n : Bool) → Some (plus_or_minus p m) ≡ Some (plus_or_minus q n) → plain (plus_or_minus p m) ≡ plain (plus_or_minus q n) × (p ≡ q) × (m ≡ n)
 one_sign p q true true e = let f : p ≡ q = cc in (ap (λ (i : ℕ). plain (token.Minus i)) f, f, refl)
@@ -135,17 +139,17 @@ one_sign p q true false e = absurd cc
 one_sign p q false true e = absurd cc
 one_sign p q false false e = let f : p ≡ q = cc in (ap (λ (i : ℕ). plain (token.Plus i)) f, f, refl)
 
-pub one_arrow : (m n : Bool) → Some (arrow_token m) ≡ Some (arrow_token n) → m ≡ n
-one_arrow true true e = refl
-one_arrow true false e = absurd cc
-one_arrow false true e = absurd cc
-one_arrow false false e = refl
+pub one_arrow : (m n : Arrow) → Some (arrow_token m) ≡ Some (arrow_token n) → m ≡ n
+one_arrow arrows.Implies arrows.Implies e = refl
+one_arrow arrows.Implies arrows.Iff e = absurd cc
+one_arrow arrows.Iff arrows.Implies e = absurd cc
+one_arrow arrows.Iff arrows.Iff e = refl
 
-pub one_quantifier : (m n : Bool) → Some (quantifier_token m) ≡ Some (quantifier_token n) → m ≡ n
-one_quantifier true true e = refl
-one_quantifier true false e = absurd cc
-one_quantifier false true e = absurd cc
-one_quantifier false false e = refl
+pub one_quantifier : (m n : Quantifier) → Some (quantifier_token m) ≡ Some (quantifier_token n) → m ≡ n
+one_quantifier quantifiers.Ex quantifiers.Ex e = refl
+one_quantifier quantifiers.Ex quantifiers.All e = absurd cc
+one_quantifier quantifiers.All quantifiers.Ex e = absurd cc
+one_quantifier quantifiers.All quantifiers.All e = refl
 
 pub one_constant : (m n : Bool) → Some (constant_token m) ≡ Some (constant_token n) → m ≡ n
 one_constant true true e = refl
@@ -250,7 +254,7 @@ disj_begins depth (ors c cs) r = conj_begins depth c _
 
 pub simple_begins : (depth : ℕ) (s : Simple) (r : List Occurrence) → Begins starts_simple (simple depth s r)
 simple_begins depth (alone d) r = disj_begins depth d r
-simple_begins depth (joined both d e) r = disj_begins depth d _
+simple_begins depth (joined arrow d e) r = disj_begins depth d _
 
 -- A token that begins none of these is not its first.
 pub begins_else : (starts : Tok → Bool) (ms : List Occurrence) (t : Tok) (us : List Tok) → Begins starts ms → starts t ≡ false → tokens_of ms ≡ t ∷ us → ⊥
@@ -342,13 +346,13 @@ module _ (R : List Occurrence → List Occurrence → Type 0) (step : (x y : Occ
     same_formula depth (quantified a x s) (quantified b y t) p q sp sq k =
         step _ _ _ _ (λ h.
         let g : a ≡ b = one_quantifier a b h in (
-          ap (λ (o : Bool). plain (quantifier_token o)) g,
+          ap (λ q. plain (quantifier_token q)) g,
           step _ _ _ _ (λ i. let f : x ≡ y = cc in (ap (λ (o : Name). opener (token.Name o) depth true) f, same_scope (depth + 1) s t p q sp sq (λ e. k (cc)))),
         ))
-    same_formula depth (quantified true x s) (open_formula t) p q sp sq k = left_else starts_simple _ _ _ refl (simple_begins depth t q)
-    same_formula depth (quantified false x s) (open_formula t) p q sp sq k = left_else starts_simple _ _ _ refl (simple_begins depth t q)
-    same_formula depth (open_formula s) (quantified true y t) p q sp sq k = right_else starts_simple _ _ _ refl (simple_begins depth s p)
-    same_formula depth (open_formula s) (quantified false y t) p q sp sq k = right_else starts_simple _ _ _ refl (simple_begins depth s p)
+    same_formula depth (quantified quantifiers.Ex x s) (open_formula t) p q sp sq k = left_else starts_simple _ _ _ refl (simple_begins depth t q)
+    same_formula depth (quantified quantifiers.All x s) (open_formula t) p q sp sq k = left_else starts_simple _ _ _ refl (simple_begins depth t q)
+    same_formula depth (open_formula s) (quantified quantifiers.Ex y t) p q sp sq k = right_else starts_simple _ _ _ refl (simple_begins depth s p)
+    same_formula depth (open_formula s) (quantified quantifiers.All y t) p q sp sq k = right_else starts_simple _ _ _ refl (simple_begins depth s p)
     same_formula depth (open_formula s) (open_formula t) p q sp sq k = same_simple depth s t p q sp sq (λ e. k (ap open_formula e))
 
     pub same_scope : (depth : ℕ) (s t : Scope) (p q : List Occurrence) → Stops on_simple (tokens_of p) → Stops on_simple (tokens_of q) → (s ≡ t → R p q) → R (scope depth s p) (scope depth t q)
@@ -365,7 +369,7 @@ module _ (R : List Occurrence → List Occurrence → Type 0) (step : (x y : Occ
     same_simple depth (joined a d e) (joined b f g) p q sp sq k =
         same_disj depth d f _ _ (arrow_stops a) (arrow_stops b) (λ h. step _ _ _ _ (λ i.
         let j : a ≡ b = one_arrow a b i in (
-          ap (λ (o : Bool). plain (arrow_token o)) j,
+          ap (λ o. plain (arrow_token o)) j,
           same_disj depth e g p q (weaker on_disj on_simple to_disj (tokens_of p) sp) (weaker on_disj on_simple to_disj (tokens_of q) sq) (λ l. k (cc)),
         )))
 

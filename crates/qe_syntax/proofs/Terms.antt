@@ -6,9 +6,10 @@ use Rattle.qe_token.specs.declared.token.Token.{Token}
 use Rattle.qe_token.specs.declared.token.Token.TheVariants as token
 use Rattle.qe_token.specs.declared.token.Located.{Located}
 use Rattle.qe_token.specs.declared.token.Name.{Name}
+use Rattle.qe_syntax.specs.declared.fault.TextFault.{TextFault}
 use Rattle.qe_syntax.specs.declared.fault.TextFault.TheVariants.{Syntax, Wide, Exponent, TooDeep, TooMany}
-use Rattle.qe_syntax.specs.declared.fault.Stop.{Stop}
-use Rattle.qe_syntax.specs.declared.fault.Stop.TheVariants as stop
+use Rattle.qe_halt.specs.declared.halt.Halt.{Halt}
+use Rattle.qe_halt.specs.declared.halt.Halt.TheVariants as halt
 use Rattle.qe_syntax.specs.declared.tree.Term as code
 use Rattle.qe_syntax.specs.Tree as tree
 use Rattle.qe_syntax.specs.Tree.{TermTree}
@@ -168,16 +169,16 @@ unfolding term_list
 term_list-spells depth (sum p ps) r = ap (product depth false p) (list_of-spells depth ps r)
 
 module _ (depth : ℕ) where
-  term_exit : (result : Result code.Term Stop) (old new : List Tok) → Reads (chain {O = ℕ × Bool} {A = Product} (product depth false) sign_mark) on_term (chain_tree product_tree addend_item whole_sum) term_of result old new 0 0 → Reads (term depth false) on_term term_tree term_of result old new 0 0
+  term_exit : (result : Result code.Term (Halt TextFault)) (old new : List Tok) → Reads (chain {O = ℕ × Bool} {A = Product} (product depth false) sign_mark) on_term (chain_tree product_tree addend_item whole_sum) term_of result old new 0 0 → Reads (term depth false) on_term term_tree term_of result old new 0 0
   term_exit result old new r =
       recast {A = Product × List ((ℕ × Bool) × Product)} {X = Term} (chain (product depth false) sign_mark) (term depth false) on_term (λ c. sum c.0 (sums_of c.1)) term_list
       (λ c r. ap (product depth false c.0) (sums_of-spells depth c.1 r)) (term_list-spells depth) (chain_tree product_tree addend_item whole_sum) term_tree term_of (λ c. ap (sum_of (product_tree c.0)) (sums_of-tree c.1))
       (chain-append (product depth false) on_product on_term sign_mark product_tree addend_item (product-append depth false) (one_product depth) sign_clean (λ o. sign_stops o.0 o.1) (λ o. sign_goes o.0 o.1) to_product) result old new 0 0 r
 
-  pub term_first_err : (e : Stop) (old new : List Tok) → Reads (product depth false) on_product product_tree term_of (Err e) old new 0 0 → Reads (term depth false) on_term term_tree term_of (Err e) old new 0 0
+  pub term_first_err : (e : Halt TextFault) (old new : List Tok) → Reads (product depth false) on_product product_tree term_of (Err e) old new 0 0 → Reads (term depth false) on_term term_tree term_of (Err e) old new 0 0
   term_first_err e old new r = term_exit (Err e) old new (first_err (product depth false) on_product on_term sign_mark product_tree addend_item (product-append depth false) (one_product depth) sign_clean (λ o. sign_stops o.0 o.1) (λ o. sign_goes o.0 o.1) to_product term_of term_of (chain_tree product_tree addend_item whole_sum) e old new 0 0 r)
 
-  pub term_turn_err : (at : ℕ) (minus : Bool) (e : Stop) (first : TermTree) (later : List AddendTree) (old mid mid' new : List Tok) → mid ≡ Some (plus_or_minus at minus) ∷ mid' → IsSums depth first later old mid → Reads (product depth false) on_product product_tree term_of (Err e) mid' new 0 0 → Reads (term depth false) on_term term_tree term_of (Err e) old new 0 0
+  pub term_turn_err : (at : ℕ) (minus : Bool) (e : Halt TextFault) (first : TermTree) (later : List AddendTree) (old mid mid' new : List Tok) → mid ≡ Some (plus_or_minus at minus) ∷ mid' → IsSums depth first later old mid → Reads (product depth false) on_product product_tree term_of (Err e) mid' new 0 0 → Reads (term depth false) on_term term_tree term_of (Err e) old new 0 0
   term_turn_err at minus e first later old mid mid' new m k r = term_exit (Err e) old new (turn_err (product depth false) on_product on_term sign_mark product_tree addend_item (product-append depth false) (one_product depth) sign_clean (λ o. sign_stops o.0 o.1) (λ o. sign_goes o.0 o.1) to_product term_of term_of (chain_tree product_tree addend_item whole_sum) (at, minus) e first later old mid mid' new 0 0 0 m k r)
 
   pub term_start : (first : TermTree) (later : List AddendTree) (old new : List Tok) → later ≡ [] → IsRead (product depth false) on_product product_tree first old new 0 0 → IsSums depth first later old new
@@ -234,16 +235,16 @@ abbrev pub IsTimes : ℕ → TermTree → List FactorTree → List Tok → List 
 IsTimes depth first later old new = IsChain {O = ℕ} {A = Signed} {P = TermTree} {I = FactorTree} (signed depth false) on_power star_mark signed_tree factor_item first later old new 0 0
 
 module _ (depth : ℕ) where
-  product_exit : (result : Result code.Term Stop) (old new : List Tok) → Reads (chain {O = ℕ} {A = Signed} (signed depth false) star_mark) on_product (chain_tree signed_tree factor_item whole_product) term_of result old new 0 0 → Reads (product depth false) on_product product_tree term_of result old new 0 0
+  product_exit : (result : Result code.Term (Halt TextFault)) (old new : List Tok) → Reads (chain {O = ℕ} {A = Signed} (signed depth false) star_mark) on_product (chain_tree signed_tree factor_item whole_product) term_of result old new 0 0 → Reads (product depth false) on_product product_tree term_of result old new 0 0
   product_exit result old new r =
       recast {A = Signed × List (ℕ × Signed)} {X = Product} (chain (signed depth false) star_mark) (product depth false) on_product (λ c. factors c.0 (times_of c.1)) product_list
       (λ c r. ap (signed depth false c.0) (times_of-spells depth c.1 r)) (product_list-spells depth) (chain_tree signed_tree factor_item whole_product) product_tree term_of (λ c. ap (product_of (signed_tree c.0)) (times_of-tree c.1))
       (chain-append (signed depth false) on_power on_product star_mark signed_tree factor_item (signed-append depth false) (one_signed depth) (λ b o. (refl, refl)) (λ o. refl) (λ o. refl) to_power) result old new 0 0 r
 
-  pub product_first_err : (e : Stop) (old new : List Tok) → Reads (signed depth false) on_power signed_tree term_of (Err e) old new 0 0 → Reads (product depth false) on_product product_tree term_of (Err e) old new 0 0
+  pub product_first_err : (e : Halt TextFault) (old new : List Tok) → Reads (signed depth false) on_power signed_tree term_of (Err e) old new 0 0 → Reads (product depth false) on_product product_tree term_of (Err e) old new 0 0
   product_first_err e old new r = product_exit (Err e) old new (first_err (signed depth false) on_power on_product star_mark signed_tree factor_item (signed-append depth false) (one_signed depth) (λ b o. (refl, refl)) (λ o. refl) (λ o. refl) to_power term_of term_of (chain_tree signed_tree factor_item whole_product) e old new 0 0 r)
 
-  pub product_turn_err : (at : ℕ) (e : Stop) (first : TermTree) (later : List FactorTree) (old mid mid' new : List Tok) → mid ≡ Some (token.Star at) ∷ mid' → IsTimes depth first later old mid → Reads (signed depth false) on_power signed_tree term_of (Err e) mid' new 0 0 → Reads (product depth false) on_product product_tree term_of (Err e) old new 0 0
+  pub product_turn_err : (at : ℕ) (e : Halt TextFault) (first : TermTree) (later : List FactorTree) (old mid mid' new : List Tok) → mid ≡ Some (token.Star at) ∷ mid' → IsTimes depth first later old mid → Reads (signed depth false) on_power signed_tree term_of (Err e) mid' new 0 0 → Reads (product depth false) on_product product_tree term_of (Err e) old new 0 0
   product_turn_err at e first later old mid mid' new m k r = product_exit (Err e) old new (turn_err (signed depth false) on_power on_product star_mark signed_tree factor_item (signed-append depth false) (one_signed depth) (λ b o. (refl, refl)) (λ o. refl) (λ o. refl) to_power term_of term_of (chain_tree signed_tree factor_item whole_product) at e first later old mid mid' new 0 0 0 m k r)
 
   pub product_start : (first : TermTree) (later : List FactorTree) (old new : List Tok) → later ≡ [] → IsRead (signed depth false) on_power signed_tree first old new 0 0 → IsTimes depth first later old new
@@ -264,16 +265,16 @@ goes_negative depth at (positive p) rest ts stops e = absurd (begins_else starts
 minus_clean : (depth at : ℕ) → nat_le 256 depth ≡ false → passed_limit 0 (opener (token.Minus at) depth false) ≡ None
 minus_clean depth at h = ap (λ (x : Bool). if x then Some TooDeep else None) h
 
-pub negative_err : (depth : ℕ) (e : Stop) (old mid : List Located) (new : List Tok) → with_end old ≡ head old ∷ with_end mid → is_minus (head old) ≡ true → nat_le 256 depth ≡ false
+pub negative_err : (depth : ℕ) (e : Halt TextFault) (old mid : List Located) (new : List Tok) → with_end old ≡ head old ∷ with_end mid → is_minus (head old) ≡ true → nat_le 256 depth ≡ false
     → Reads (signed (depth + 1) false) on_power signed_tree term_of (Err e) (with_end mid) new 0 0 → Reads (signed depth false) on_power signed_tree term_of (Err e) (with_end old) new 0 0
 negative_err depth e old mid new h m k r =
     let w = minus_head (head old) m in
     within_err (signed (depth + 1) false) on_power (signed depth false) on_power signed_tree signed_tree term_of term_of (signed-append (depth + 1) false) (opener (token.Minus w.0) depth false ∷ []) [] (negative w.0) (λ a. refl) (goes_negative depth w.0) e (with_end old) (with_end mid) new 0 0 0 0
     (next_is old mid (token.Minus w.0) h w.1) (minus_clean depth w.0 k, tt) refl r
 
-pub negative_deep : (depth : ℕ) (e : Stop) (old : List Located) → is_minus (head old) ≡ true → Tests (nat_le 256 depth) TooDeep (Err e) → Reads (signed depth false) on_power signed_tree term_of (Err e) (with_end old) (with_end old) 0 0
-negative_deep depth stop.OutOfMemory old h k = tt
-negative_deep depth (stop.Limit f) old h k =
+pub negative_deep : (depth : ℕ) (e : Halt TextFault) (old : List Located) → is_minus (head old) ≡ true → Tests (nat_le 256 depth) TooDeep (Err e) → Reads (signed depth false) on_power signed_tree term_of (Err e) (with_end old) (with_end old) 0 0
+negative_deep depth halt.OutOfMemory old h k = tt
+negative_deep depth (halt.Limit f) old h k =
     let m = minus_head (head old) h in
     let w = at_head old (token.Minus m.0) m.1 in
     subst (λ g. IsStopped (signed depth false) on_power g (with_end old) (with_end old) 0) (sym k.1)
@@ -297,10 +298,10 @@ goes_positive depth h m (negative at s) rest ts st e = let g : Some (token.Minus
 goes_positive depth h m (positive p) rest ts st e = (p, rest, st, e)
 
 -- no sign stands first
-pub falls_through : (depth : ℕ) (result : Result code.Term Stop) (old new : List Located) → is_minus (head old) ≡ false → Reads (power depth false) on_power power_tree term_of result (with_end old) (with_end new) 0 0 → Reads (signed depth false) on_power signed_tree term_of result (with_end old) (with_end new) 0 0
+pub falls_through : (depth : ℕ) (result : Result code.Term (Halt TextFault)) (old new : List Located) → is_minus (head old) ≡ false → Reads (power depth false) on_power power_tree term_of result (with_end old) (with_end new) 0 0 → Reads (signed depth false) on_power signed_tree term_of result (with_end old) (with_end new) 0 0
 falls_through depth (Ok f) old new m r = record { found = positive r.found; is = r.is; spelled = r.spelled; clean = r.clean; count = r.count; stops = r.stops }
-falls_through depth (Err stop.OutOfMemory) old new m r = tt
-falls_through depth (Err (stop.Limit f)) old new m r = from_first (power depth false) on_power (signed depth false) on_power (head old) positive (λ a. refl) (goes_positive depth (head old) m) f (with_end old) (with_end new) 0 (first_head old) r
+falls_through depth (Err halt.OutOfMemory) old new m r = tt
+falls_through depth (Err (halt.Limit f)) old new m r = from_first (power depth false) on_power (signed depth false) on_power (head old) positive (λ a. refl) (goes_positive depth (head old) m) f (with_end old) (with_end new) 0 (first_head old) r
 
 -- ---- a power
 
@@ -308,7 +309,7 @@ goes_base : (depth : ℕ) → GoesOn (primary depth false) on_primary (power dep
 goes_base depth (base b) rest ts st e = (b, rest, any_stop on_power (tokens_of rest) st, e)
 goes_base depth (raised b at n) rest ts st e = (b, plain (token.Caret at) ∷ figure n (exponent (is_name b)) false ∷ rest, refl, e)
 
-pub base_err : (depth : ℕ) (e : Stop) (old new : List Tok) → Reads (primary depth false) on_primary primary_tree term_of (Err e) old new 0 0 → Reads (power depth false) on_power power_tree term_of (Err e) old new 0 0
+pub base_err : (depth : ℕ) (e : Halt TextFault) (old new : List Tok) → Reads (primary depth false) on_primary primary_tree term_of (Err e) old new 0 0 → Reads (power depth false) on_power power_tree term_of (Err e) old new 0 0
 base_err depth e old new r = within_err (primary depth false) on_primary (power depth false) on_power primary_tree power_tree term_of term_of (primary-append depth false) [] [] base (λ a. refl) (goes_base depth) e old old new 0 0 0 0 refl tt refl r
 
 pub read_base : (depth : ℕ) (value : TermTree) (old new : List Tok) → Stops on_power new → IsRead (primary depth false) on_primary primary_tree value old new 0 0 → IsRead (power depth false) on_power power_tree value old new 0 0
@@ -345,10 +346,10 @@ no_exponent depth at b t ts bad (raised c i m) rest us st e =
 figure_clean : (n : ℕ) (b : Bool) → nat_lt (most_exponent b) n ≡ false → passed_limit 0 (figure n (exponent b) false) ≡ None
 figure_clean n b h = ap (λ (x : Bool). if x then Some Exponent else None) h
 
-pub exponent_err : (depth at : ℕ) (e : Stop) (value : TermTree) (n : Bool) (old mid mid' new : List Located) → n ≡ is_some (next_name (head old)) → IsRead (primary depth false) on_primary primary_tree value (with_end old) (with_end mid) 0 0 → with_end mid ≡ Some (token.Caret at) ∷ with_end mid'
+pub exponent_err : (depth at : ℕ) (e : Halt TextFault) (value : TermTree) (n : Bool) (old mid mid' new : List Located) → n ≡ is_some (next_name (head old)) → IsRead (primary depth false) on_primary primary_tree value (with_end old) (with_end mid) 0 0 → with_end mid ≡ Some (token.Caret at) ∷ with_end mid'
     → TakesExponent (most_exponent n) (Err e) (with_end mid') (with_end new) → Reads (power depth false) on_power power_tree term_of (Err e) (with_end old) (with_end new) 0 0
-exponent_err depth at stop.OutOfMemory value n old mid mid' new nm r m s = tt
-exponent_err depth at (stop.Limit Syntax) value n old mid mid' new nm r m s =
+exponent_err depth at halt.OutOfMemory value n old mid mid' new nm r m s = tt
+exponent_err depth at (halt.Limit Syntax) value n old mid mid' new nm r m s =
     let w = some_first mid' in
     let B = primary depth false r.found [] in
     let C = plain (token.Caret at) in
@@ -359,7 +360,7 @@ exponent_err depth at (stop.Limit Syntax) value n old mid mid' new nm r m s =
     (r.spelled ∙ ap (λ (x : List Tok). tokens_of B ++ x) (m ∙ ap (λ (x : List Tok). Some (token.Caret at) ∷ x) (sym s.0)) ∙ sym (append_assoc (tokens_of B) (Some (token.Caret at) ∷ []) (with_end new)) ∙ ap (λ (x : List Tok). x ++ with_end new) (sym front))
     (s.0 ∙ w.1) (clean-append 0 0 B (C ∷ []) r.count r.clean (refl, tt))
     (λ p rest us st e. no_exponent depth at r.found (head mid') w.0 (λ q vs f. s.1 q vs (w.1 ∙ f)) p rest us st (e ∙ ap (λ (x : List Tok). x ++ head mid' ∷ us) front ∙ append_assoc (tokens_of B) (Some (token.Caret at) ∷ []) (head mid' ∷ us)))
-exponent_err depth at (stop.Limit Exponent) value n old mid mid' new nm r m s =
+exponent_err depth at (halt.Limit Exponent) value n old mid mid' new nm r m s =
     let B = primary depth false r.found [] in
     let C = plain (token.Caret at) in
     let q = s.1 in
@@ -371,9 +372,9 @@ exponent_err depth at (stop.Limit Exponent) value n old mid mid' new nm r m s =
     (r.spelled ∙ ap (λ (x : List Tok). tokens_of B ++ x) (m ∙ ap (λ (x : List Tok). Some (token.Caret at) ∷ x) (sym s.0)) ∙ sym (append_assoc (tokens_of B) (Some (token.Caret at) ∷ []) (with_end new)) ∙ ap (λ (x : List Tok). x ++ with_end new) (sym front))
     (s.0 ∙ s.3) (clean-append 0 0 B (C ∷ []) r.count r.clean (refl, tt)) tt
     (ap (λ (x : Bool). if x then Some Exponent else None) (ap (λ (b : Bool). nat_lt (most_exponent b) q) (sym same) ∙ s.4))
-exponent_err depth at (stop.Limit Wide) value n old mid mid' new nm r m s = absurd s
-exponent_err depth at (stop.Limit TooDeep) value n old mid mid' new nm r m s = absurd s
-exponent_err depth at (stop.Limit TooMany) value n old mid mid' new nm r m s = absurd s
+exponent_err depth at (halt.Limit Wide) value n old mid mid' new nm r m s = absurd s
+exponent_err depth at (halt.Limit TooDeep) value n old mid mid' new nm r m s = absurd s
+exponent_err depth at (halt.Limit TooMany) value n old mid mid' new nm r m s = absurd s
 
 raised_clean : (depth at q : ℕ) (b : Primary) → IsClean 0 (primary depth false b []) → counted 0 (primary depth false b []) ≡ 0 → nat_lt (most_exponent (is_name b)) q ≡ false
     → IsClean 0 (primary depth false b [] ++ plain (token.Caret at) ∷ figure q (exponent (is_name b)) false ∷ [])
@@ -434,16 +435,16 @@ no_primary depth old a b c =
 open_clean : (depth : ℕ) → nat_le 256 depth ≡ false → passed_limit 0 (opener token.OpenParenthesis depth false) ≡ None
 open_clean depth h = ap (λ (x : Bool). if x then Some TooDeep else None) h
 
-pub number_wide : (depth n : ℕ) (e : Stop) (old : List Located) → head old ≡ Some (token.Number n) → Tests (nat_lt 170141183460469231731687303715884105727 n) Wide (Err e) → Reads (primary depth false) on_primary primary_tree term_of (Err e) (with_end old) (with_end old) 0 0
-number_wide depth n stop.OutOfMemory old h k = tt
-number_wide depth n (stop.Limit f) old h k =
+pub number_wide : (depth n : ℕ) (e : Halt TextFault) (old : List Located) → head old ≡ Some (token.Number n) → Tests (nat_lt 170141183460469231731687303715884105727 n) Wide (Err e) → Reads (primary depth false) on_primary primary_tree term_of (Err e) (with_end old) (with_end old) 0 0
+number_wide depth n halt.OutOfMemory old h k = tt
+number_wide depth n (halt.Limit f) old h k =
     let w = at_head old (token.Number n) h in
     subst (λ g. IsStopped (primary depth false) on_primary g (with_end old) (with_end old) 0) (sym k.1)
     (stops_at (primary depth false) on_primary (number n) [] (figure n literal false) [] Wide (with_end old) (with_end old) w.0 0 refl refl w.1 tt tt (ap (λ (x : Bool). if x then Some Wide else None) k.0))
 
-pub group_deep : (depth : ℕ) (e : Stop) (old : List Located) → head old ≡ Some token.OpenParenthesis → Tests (nat_le 256 depth) TooDeep (Err e) → Reads (primary depth false) on_primary primary_tree term_of (Err e) (with_end old) (with_end old) 0 0
-group_deep depth stop.OutOfMemory old h k = tt
-group_deep depth (stop.Limit f) old h k =
+pub group_deep : (depth : ℕ) (e : Halt TextFault) (old : List Located) → head old ≡ Some token.OpenParenthesis → Tests (nat_le 256 depth) TooDeep (Err e) → Reads (primary depth false) on_primary primary_tree term_of (Err e) (with_end old) (with_end old) 0 0
+group_deep depth halt.OutOfMemory old h k = tt
+group_deep depth (halt.Limit f) old h k =
     let w = at_head old token.OpenParenthesis h in
     subst (λ g. IsStopped (primary depth false) on_primary g (with_end old) (with_end old) 0) (sym k.1)
     (stops_at (primary depth false) on_primary (group (sum (factors (positive (base (number 0))) no_times) no_sum)) [] (opener token.OpenParenthesis depth false) (figure 0 literal false ∷ plain token.CloseParenthesis ∷ []) TooDeep (with_end old) (with_end old) w.0 0 refl refl w.1 tt tt (ap (λ (x : Bool). if x then Some TooDeep else None) k.0))
@@ -453,7 +454,7 @@ goes_group depth (number n) rest ts stops e = absurd cc
 goes_group depth (name n) rest ts stops e = absurd cc
 goes_group depth (group t) rest ts stops e = (t, plain token.CloseParenthesis ∷ rest, refl, cc)
 
-pub group_err : (depth : ℕ) (e : Stop) (old mid new : List Tok) → old ≡ Some token.OpenParenthesis ∷ mid → nat_le 256 depth ≡ false → Reads (term (depth + 1) false) on_term term_tree term_of (Err e) mid new 0 0 → Reads (primary depth false) on_primary primary_tree term_of (Err e) old new 0 0
+pub group_err : (depth : ℕ) (e : Halt TextFault) (old mid new : List Tok) → old ≡ Some token.OpenParenthesis ∷ mid → nat_le 256 depth ≡ false → Reads (term (depth + 1) false) on_term term_tree term_of (Err e) mid new 0 0 → Reads (primary depth false) on_primary primary_tree term_of (Err e) old new 0 0
 group_err depth e old mid new h k r =
     within_err (term (depth + 1) false) on_term (primary depth false) on_primary term_tree primary_tree term_of term_of (term-append (depth + 1) false) (opener token.OpenParenthesis depth false ∷ []) (plain token.CloseParenthesis ∷ []) group (λ a. refl) (goes_group depth) e old mid new 0 0 0 0 h (open_clean depth k, tt) refl r
 
@@ -467,20 +468,20 @@ no_close depth s t ts st bad (group q) rest us stops e =
     let f : Some token.CloseParenthesis ≡ t = let x : Some token.CloseParenthesis ∷ tokens_of rest ≡ t ∷ us = w.1 in cc in
     bad ts (ap (λ (v : Tok). v ∷ ts) (sym f))
 
-pub close_err : (depth : ℕ) (e : Stop) (value : TermTree) (old mid ts new : List Located) → with_end old ≡ Some token.OpenParenthesis ∷ with_end mid → nat_le 256 depth ≡ false → IsRead (term (depth + 1) false) on_term term_tree value (with_end mid) (with_end ts) 0 0
+pub close_err : (depth : ℕ) (e : Halt TextFault) (value : TermTree) (old mid ts new : List Located) → with_end old ≡ Some token.OpenParenthesis ∷ with_end mid → nat_le 256 depth ≡ false → IsRead (term (depth + 1) false) on_term term_tree value (with_end mid) (with_end ts) 0 0
     → Takes token.CloseParenthesis (Err e) (with_end ts) (with_end new) → Reads (primary depth false) on_primary primary_tree term_of (Err e) (with_end old) (with_end new) 0 0
-close_err depth stop.OutOfMemory value old mid ts new h k r s = tt
-close_err depth (stop.Limit Syntax) value old mid ts new h k r s =
+close_err depth halt.OutOfMemory value old mid ts new h k r s = tt
+close_err depth (halt.Limit Syntax) value old mid ts new h k r s =
     let w = some_first ts in
     let S = term (depth + 1) false r.found [] in
     refused_at (primary depth false) on_primary (group r.found) (opener token.OpenParenthesis depth false ∷ S) (plain token.CloseParenthesis ∷ []) (head ts) (with_end old) (with_end new) w.0 0
     (ap (λ (ms : List Occurrence). opener token.OpenParenthesis depth false ∷ ms) (term-append (depth + 1) false r.found [] (plain token.CloseParenthesis ∷ [])))
     (h ∙ ap (λ (x : List Tok). Some token.OpenParenthesis ∷ x) (r.spelled ∙ ap (λ (x : List Tok). tokens_of S ++ x) (sym s.0))) (s.0 ∙ w.1) (open_clean depth k, r.clean)
     (no_close depth r.found (head ts) w.0 (subst (λ x. Stops on_term x) w.1 r.stops) (λ us e. s.1 us (w.1 ∙ e)))
-close_err depth (stop.Limit Wide) value old mid ts new h k r s = absurd s
-close_err depth (stop.Limit Exponent) value old mid ts new h k r s = absurd s
-close_err depth (stop.Limit TooDeep) value old mid ts new h k r s = absurd s
-close_err depth (stop.Limit TooMany) value old mid ts new h k r s = absurd s
+close_err depth (halt.Limit Wide) value old mid ts new h k r s = absurd s
+close_err depth (halt.Limit Exponent) value old mid ts new h k r s = absurd s
+close_err depth (halt.Limit TooDeep) value old mid ts new h k r s = absurd s
+close_err depth (halt.Limit TooMany) value old mid ts new h k r s = absurd s
 
 pub read_number : (depth n : ℕ) (value : TermTree) (old new : List Located) → value ≡ tree.Number n → with_end old ≡ Some (token.Number n) ∷ with_end new → nat_lt 170141183460469231731687303715884105727 n ≡ false → IsRead (primary depth false) on_primary primary_tree value (with_end old) (with_end new) 0 0
 read_number depth n value old new is h k = record { found = number n; is = sym is; spelled = h; clean = (ap (λ (x : Bool). if x then Some Wide else None) k, tt); count = refl; stops = stops_at_head on_primary new refl }

@@ -4,8 +4,8 @@ use Rattle.std.specs.Prelude.{Err}
 use Rattle.std.proofs.lemmas.List.{append-nil}
 use Rattle.qe_syntax.specs.declared.fault.TextFault.{TextFault}
 use Rattle.qe_syntax.specs.declared.fault.TextFault.TheVariants.{Syntax, Wide, Exponent, TooDeep, TooMany}
-use Rattle.qe_syntax.specs.declared.fault.Stop.{Stop}
-use Rattle.qe_syntax.specs.declared.fault.Stop.TheVariants as stop
+use Rattle.qe_halt.specs.declared.halt.Halt.{Halt}
+use Rattle.qe_halt.specs.declared.halt.Halt.TheVariants as halt
 use Rattle.qe_syntax.specs.Grammar.{Occurrence, tokens_of}
 use Rattle.qe_syntax.specs.Faults.{Tok, passed_limit, counted}
 use Rattle.qe_syntax.specs.Reading.{Stops, IsClean, IsRefused, HasFault, IsStopped, Reads}
@@ -104,10 +104,10 @@ module _ {A X : Type 0} (spell : A → List Occurrence → List Occurrence) (goe
 module _ {A X : Type 0} (spell : A → List Occurrence → List Occurrence) (goes_on : Tok → Bool) (spell' : X → List Occurrence → List Occurrence) (goes_on' : Tok → Bool) where
   pub within_err : {F G S T : Type 0} (of : A → S) (of' : X → T) (view : F → S) (view' : G → T) (append : (a : A) (r q : List Occurrence) → spell a (r ++ q) ≡ spell a r ++ q) (front tail : List Occurrence) (make : A → X)
       → ((a : A) → spell' (make a) [] ≡ front ++ spell a tail) → GoesOn spell goes_on spell' goes_on' front
-      → (e : Stop) (old mid new : List Tok) (b c d d' : ℕ) → old ≡ tokens_of front ++ mid → IsClean b front → counted b front ≡ c
+      → (e : Halt TextFault) (old mid new : List Tok) (b c d d' : ℕ) → old ≡ tokens_of front ++ mid → IsClean b front → counted b front ≡ c
       → Reads spell goes_on of view (Err e) mid new c d → Reads spell' goes_on' of' view' (Err e) old new b d'
-  within_err of of' view view' append front tail make made goes stop.OutOfMemory old mid new b c d d' e clean count s = tt
-  within_err of of' view view' append front tail make made goes (stop.Limit f) old mid new b c d d' e clean count s = within spell goes_on spell' goes_on' append front tail make made goes f old mid new b c e clean count s
+  within_err of of' view view' append front tail make made goes halt.OutOfMemory old mid new b c d d' e clean count s = tt
+  within_err of of' view view' append front tail make made goes (halt.Limit f) old mid new b c d d' e clean count s = within spell goes_on spell' goes_on' append front tail make made goes f old mid new b c e clean count s
 
 abbrev pub IsValue : TextFault → Type 0
 IsValue Syntax = ⊥

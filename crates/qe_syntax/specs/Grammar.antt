@@ -5,6 +5,10 @@ use Rattle.qe_token.specs.declared.token.Token.TheVariants as token
 use Rattle.qe_token.specs.declared.token.Located.{Located}
 use Rattle.qe_token.specs.declared.token.Name.{Name}
 use Rattle.qe_token.specs.declared.token.Relation.{Relation}
+use Rattle.qe_syntax.specs.declared.formula.Quantifier.{Quantifier}
+use Rattle.qe_syntax.specs.declared.formula.Quantifier.TheVariants.{Ex, All}
+use Rattle.qe_syntax.specs.declared.formula.Arrow.{Arrow}
+use Rattle.qe_syntax.specs.declared.formula.Arrow.TheVariants.{Implies, Iff}
 use Rattle.qe_syntax.specs.Tree as tree
 use Rattle.qe_syntax.specs.Tree.{TermTree, Addends, no_addend, addend, Factors, no_factor, factor, FormulaTree, FormulaTrees, no_more, more}
 
@@ -55,8 +59,7 @@ pub data Atom : Type 0 where
 -- unary   = "not" unary | "true" | "false" | "[" formula "]" | atom
 mutual
   pub data Formula : Type 0 where
-    -- whether it is "all"
-    quantified : Bool → Name → Scope → Formula
+    quantified : Quantifier → Name → Scope → Formula
     open_formula : Simple → Formula
 
   -- what follows a bound name
@@ -66,8 +69,7 @@ mutual
 
   pub data Simple : Type 0 where
     alone : Disj → Simple
-    -- whether it is "iff"
-    joined : Bool → Disj → Disj → Simple
+    joined : Arrow → Disj → Disj → Simple
 
   pub data Disj : Type 0 where
     ors : Conj → Ors → Disj
@@ -125,11 +127,13 @@ the_end = record { token = None; opens = None; role = no_number; begins = false 
 abbrev pub plus_or_minus : ℕ → Bool → Token
 plus_or_minus p minus = if minus then token.Minus p else token.Plus p
 
-abbrev pub quantifier_token : Bool → Token
-quantifier_token all = if all then token.All else token.Ex
+abbrev pub quantifier_token : Quantifier → Token
+quantifier_token Ex = token.Ex
+quantifier_token All = token.All
 
-abbrev pub arrow_token : Bool → Token
-arrow_token both = if both then token.Iff else token.Implies
+abbrev pub arrow_token : Arrow → Token
+arrow_token Implies = token.Implies
+arrow_token Iff = token.Iff
 
 abbrev pub constant_token : Bool → Token
 constant_token value = if value then token.True else token.False
@@ -175,7 +179,7 @@ comparison depth (compare t at r u) rest = term depth true t (plain (token.Relat
 -- The same of a formula.
 abbrev mutual
   pub formula : ℕ → Formula → List Occurrence → List Occurrence
-  formula depth (quantified all x s) rest = plain (quantifier_token all) ∷ opener (token.Name x) depth true ∷ scope (depth + 1) s rest
+  formula depth (quantified quantifier x s) rest = plain (quantifier_token quantifier) ∷ opener (token.Name x) depth true ∷ scope (depth + 1) s rest
   formula depth (open_formula s) rest = simple depth s rest
 
   pub scope : ℕ → Scope → List Occurrence → List Occurrence
@@ -184,7 +188,7 @@ abbrev mutual
 
   pub simple : ℕ → Simple → List Occurrence → List Occurrence
   simple depth (alone d) rest = disj depth d rest
-  simple depth (joined both d e) rest = disj depth d (plain (arrow_token both) ∷ disj depth e rest)
+  simple depth (joined arrow d e) rest = disj depth d (plain (arrow_token arrow) ∷ disj depth e rest)
 
   pub disj : ℕ → Disj → List Occurrence → List Occurrence
   disj depth (ors c cs) rest = conj depth c (orses depth cs rest)
@@ -227,11 +231,13 @@ abbrev pub disjoined : FormulaTree → FormulaTrees → FormulaTree
 disjoined f no_more = f
 disjoined f (more g gs) = tree.Or (more f (more g gs))
 
-abbrev pub bound : Bool → Name → FormulaTree → FormulaTree
-bound all x f = if all then tree.All x f else tree.Ex x f
+abbrev pub bound : Quantifier → Name → FormulaTree → FormulaTree
+bound Ex x f = tree.Ex x f
+bound All x f = tree.All x f
 
-abbrev pub linked : Bool → FormulaTree → FormulaTree → FormulaTree
-linked both f g = if both then tree.Iff f g else tree.Implies f g
+abbrev pub linked : Arrow → FormulaTree → FormulaTree → FormulaTree
+linked Implies f g = tree.Implies f g
+linked Iff f g = tree.Iff f g
 
 abbrev pub constant_tree : Bool → FormulaTree
 constant_tree value = if value then tree.True else tree.False
@@ -270,17 +276,17 @@ atom_tree (compare t at r u) = tree.Atom (term_tree t) at r (term_tree u)
 
 abbrev mutual
   pub formula_tree : Formula → FormulaTree
-  formula_tree (quantified all x s) = bound all x (scope_tree all s)
+  formula_tree (quantified quantifier x s) = bound quantifier x (scope_tree quantifier s)
   formula_tree (open_formula s) = simple_tree s
 
-  -- where the names are bound by `all`, or by `ex`
-  pub scope_tree : Bool → Scope → FormulaTree
-  scope_tree all (further x s) = bound all x (scope_tree all s)
-  scope_tree all (body f) = formula_tree f
+  -- where the names are bound by this quantifier
+  pub scope_tree : Quantifier → Scope → FormulaTree
+  scope_tree quantifier (further x s) = bound quantifier x (scope_tree quantifier s)
+  scope_tree quantifier (body f) = formula_tree f
 
   pub simple_tree : Simple → FormulaTree
   simple_tree (alone d) = disj_tree d
-  simple_tree (joined both d e) = linked both (disj_tree d) (disj_tree e)
+  simple_tree (joined arrow d e) = linked arrow (disj_tree d) (disj_tree e)
 
   pub disj_tree : Disj → FormulaTree
   disj_tree (ors c cs) = disjoined (conj_tree c) (ors_trees cs)

@@ -7,9 +7,13 @@ use Rattle.qe_token.specs.declared.token.Name.{Name}
 use Rattle.qe_token.specs.declared.token.Relation.{Relation}
 use Rattle.qe_syntax.specs.declared.fault.TextFault.{TextFault}
 use Rattle.qe_syntax.specs.declared.fault.TextFault.TheVariants.{Syntax, Wide, Exponent, TooDeep, TooMany}
-use Rattle.qe_syntax.specs.declared.fault.Stop.{Stop}
-use Rattle.qe_syntax.specs.declared.fault.Stop.TheVariants as stop
+use Rattle.qe_halt.specs.declared.halt.Halt.{Halt}
+use Rattle.qe_halt.specs.declared.halt.Halt.TheVariants as halt
 use Rattle.qe_syntax.specs.declared.formula.Parser.{Parser}
+use Rattle.qe_syntax.specs.declared.formula.Quantifier.{Quantifier}
+use Rattle.qe_syntax.specs.declared.formula.Quantifier.TheVariants.{Ex, All}
+use Rattle.qe_syntax.specs.declared.formula.Arrow.{Arrow}
+use Rattle.qe_syntax.specs.declared.formula.Arrow.TheVariants.{Implies, Iff}
 use Rattle.qe_syntax.specs.declared.tree.Term.{Term}
 use Rattle.qe_syntax.specs.declared.tree.Formula.{Formula}
 use Rattle.qe_syntax.specs.Tree.{TermTree, FormulaTree}
@@ -59,17 +63,17 @@ module _ {A : Type 0} (spell : A → List Occurrence → List Occurrence) (goes_
     pub clean : IsClean begun before
     pub fault : HasFault f (counted begun before) before more new
 
-  abbrev pub Reads : {F T : Type 0} → (A → T) → (F → T) → Result F Stop → List Tok → List Tok → ℕ → ℕ → Type 0
+  abbrev pub Reads : {F T : Type 0} → (A → T) → (F → T) → Result F (Halt TextFault) → List Tok → List Tok → ℕ → ℕ → Type 0
   Reads of view (Ok f) old new begun begun' = IsRead of (view f) old new begun begun'
-  Reads of view (Err stop.OutOfMemory) old new begun begun' = Unit {0}
-  Reads of view (Err (stop.Limit f)) old new begun begun' = IsStopped f old new begun
+  Reads of view (Err halt.OutOfMemory) old new begun begun' = Unit {0}
+  Reads of view (Err (halt.Limit f)) old new begun begun' = IsStopped f old new begun
 
   -- what a method on terms does: in a term nothing begins
-  abbrev pub ReadsTerm : (A → TermTree) → Result Term Stop → List Located → List Located → Type 0
+  abbrev pub ReadsTerm : (A → TermTree) → Result Term (Halt TextFault) → List Located → List Located → Type 0
   ReadsTerm of result old new = Reads of term_of result (with_end old) (with_end new) 0 0
 
   -- what a method on formulas does
-  abbrev pub ReadsFormula : (A → FormulaTree) → Result Formula Stop → Parser → Parser → Type 0
+  abbrev pub ReadsFormula : (A → FormulaTree) → Result Formula (Halt TextFault) → Parser → Parser → Type 0
   ReadsFormula of result old new =
       Reads of tree_of result (with_end old.cursor) (with_end new.cursor) old.begun new.begun
 
@@ -149,14 +153,14 @@ next_sign (Some (token.Plus p)) = Some (p, false)
 next_sign (Some (token.Minus p)) = Some (p, true)
 next_sign t = None
 
-abbrev pub next_quantifier : Tok → Option Bool
-next_quantifier (Some token.Ex) = Some false
-next_quantifier (Some token.All) = Some true
+abbrev pub next_quantifier : Tok → Option Quantifier
+next_quantifier (Some token.Ex) = Some Ex
+next_quantifier (Some token.All) = Some All
 next_quantifier t = None
 
-abbrev pub next_arrow : Tok → Option Bool
-next_arrow (Some token.Implies) = Some false
-next_arrow (Some token.Iff) = Some true
+abbrev pub next_arrow : Tok → Option Arrow
+next_arrow (Some token.Implies) = Some Implies
+next_arrow (Some token.Iff) = Some Iff
 next_arrow t = None
 
 abbrev pub next_constant : Tok → Option Bool
@@ -165,33 +169,33 @@ next_constant (Some token.True) = Some true
 next_constant t = None
 
 -- what the small steps do
-abbrev pub Takes : Token → Result (Unit {0}) Stop → List Tok → List Tok → Type 0
+abbrev pub Takes : Token → Result (Unit {0}) (Halt TextFault) → List Tok → List Tok → Type 0
 Takes t (Ok u) old new = old ≡ Some t ∷ new
-Takes t (Err (stop.Limit Syntax)) old new = (new ≡ old) × ((ts : List Tok) → old ≡ Some t ∷ ts → ⊥)
+Takes t (Err (halt.Limit Syntax)) old new = (new ≡ old) × ((ts : List Tok) → old ≡ Some t ∷ ts → ⊥)
 Takes t (Err e) old new = ⊥
 
 -- an exponent, at most so great
-abbrev pub TakesExponent : ℕ → Result ℕ Stop → List Tok → List Tok → Type 0
+abbrev pub TakesExponent : ℕ → Result ℕ (Halt TextFault) → List Tok → List Tok → Type 0
 TakesExponent most (Ok n) old new = (old ≡ Some (token.Number n) ∷ new) × (nat_lt most n ≡ false)
-TakesExponent most (Err (stop.Limit Syntax)) old new = (new ≡ old) × ((n : ℕ) (ts : List Tok) → old ≡ Some (token.Number n) ∷ ts → ⊥)
-TakesExponent most (Err (stop.Limit Exponent)) old new = (new ≡ old) × (n : ℕ) × (ts : List Tok) × (old ≡ Some (token.Number n) ∷ ts) × (nat_lt most n ≡ true)
+TakesExponent most (Err (halt.Limit Syntax)) old new = (new ≡ old) × ((n : ℕ) (ts : List Tok) → old ≡ Some (token.Number n) ∷ ts → ⊥)
+TakesExponent most (Err (halt.Limit Exponent)) old new = (new ≡ old) × (n : ℕ) × (ts : List Tok) × (old ≡ Some (token.Number n) ∷ ts) × (nat_lt most n ≡ true)
 TakesExponent most (Err e) old new = ⊥
 
-abbrev pub TakesRelation : Result (ℕ × Relation) Stop → List Tok → List Tok → Type 0
+abbrev pub TakesRelation : Result (ℕ × Relation) (Halt TextFault) → List Tok → List Tok → Type 0
 TakesRelation (Ok r) old new = old ≡ Some (token.Relation r.0 r.1) ∷ new
-TakesRelation (Err (stop.Limit Syntax)) old new = (new ≡ old) × ((p : ℕ) (r : Relation) (ts : List Tok) → old ≡ Some (token.Relation p r) ∷ ts → ⊥)
+TakesRelation (Err (halt.Limit Syntax)) old new = (new ≡ old) × ((p : ℕ) (r : Relation) (ts : List Tok) → old ≡ Some (token.Relation p r) ∷ ts → ⊥)
 TakesRelation (Err e) old new = ⊥
 
 -- A test that gives this fault where it is true.
-abbrev pub Tests : Bool → TextFault → Result (Unit {0}) Stop → Type 0
+abbrev pub Tests : Bool → TextFault → Result (Unit {0}) (Halt TextFault) → Type 0
 Tests b f (Ok u) = b ≡ false
-Tests b f (Err stop.OutOfMemory) = ⊥
-Tests b f (Err (stop.Limit g)) = (b ≡ true) × (g ≡ f)
+Tests b f (Err halt.OutOfMemory) = ⊥
+Tests b f (Err (halt.Limit g)) = (b ≡ true) × (g ≡ f)
 
 -- the number as an exponent, if it is at most so great
-abbrev pub TestsExponent : ℕ → ℕ → Result ℕ Stop → Type 0
+abbrev pub TestsExponent : ℕ → ℕ → Result ℕ (Halt TextFault) → Type 0
 TestsExponent most n (Ok k) = (k ≡ n) × (nat_lt most n ≡ false)
-TestsExponent most n (Err (stop.Limit Exponent)) = nat_lt most n ≡ true
+TestsExponent most n (Err (halt.Limit Exponent)) = nat_lt most n ≡ true
 TestsExponent most n (Err e) = ⊥
 
 -- the fault of a bound name, where so many levels are open and so many began
@@ -199,10 +203,10 @@ abbrev pub bound_fault : ℕ → ℕ → Option TextFault
 bound_fault depth begun = if nat_le 256 depth then Some TooDeep else if nat_le 65536 begun then Some TooMany else None
 
 -- Takes a bound name.
-abbrev pub Binds : ℕ → Result (Unit {0}) Stop → Tok → List Tok → List Tok → ℕ → ℕ → Type 0
+abbrev pub Binds : ℕ → Result (Unit {0}) (Halt TextFault) → Tok → List Tok → List Tok → ℕ → ℕ → Type 0
 Binds depth (Ok u) t old new begun begun' = (old ≡ t ∷ new) × (begun' ≡ begun + 1) × (bound_fault depth begun ≡ None)
-Binds depth (Err stop.OutOfMemory) t old new begun begun' = ⊥
-Binds depth (Err (stop.Limit f)) t old new begun begun' = (new ≡ old) × (bound_fault depth begun ≡ Some f)
+Binds depth (Err halt.OutOfMemory) t old new begun begun' = ⊥
+Binds depth (Err (halt.Limit f)) t old new begun begun' = (new ≡ old) × (bound_fault depth begun ≡ Some f)
 
 -- the fault of the first token of an atom, where no atom may begin
 abbrev pub fault_at_limit : Tok → ℕ → TextFault

@@ -1,9 +1,6 @@
 //! What ends the reading of a text.
 
-ghost use Rattle.std.specs.Prelude.{◌≡◌};
-ghost use Rattle.qe_syntax.specs.declared.fault.Stop.TheVariants.{OutOfMemory};
-
-use std::alloc::{AllocError, AllocFailed};
+use qe_halt::Halt;
 
 /// A fault of a text at one of its tokens, or at its end. Where a token has several, the first of these counts.
 #[derive(Clone, Copy, Debug, PartialEq, Eq)]
@@ -29,24 +26,4 @@ pub enum ParseStop {
 }
 
 /// Why a part of a text is not read. The fault is that of the token that comes next.
-#[derive(Debug, Drop)]
-pub enum Stop {
-    Limit(TextFault),
-    OutOfMemory,
-}
-
-impl From<AllocError> for Stop {
-    ghost from_gives = { λ _ e. e ≡ OutOfMemory };
-
-    fn from(_e: AllocError) -> Stop {
-        Stop::OutOfMemory
-    }
-}
-
-impl<T: Drop> From<AllocFailed<T>> for Stop {
-    ghost from_gives = { λ _ e. e ≡ OutOfMemory };
-
-    fn from(_e: AllocFailed<T>) -> Stop {
-        Stop::OutOfMemory
-    }
-}
+pub type Stop = Halt<TextFault>;

@@ -22,28 +22,49 @@ pub struct Parser<'a> {
     pub begun: u32,
 }
 
-/// The formula that binds a name by `all` or `ex`.
-fn quantified(alloc: Global, all: bool, name: Name, body: Formula) -> Result<Formula, OutOfMemory>
-    ensures { IfOk result (λ f. tree_of f ≡ bound all name (tree_of body)) }
+#[derive(Clone, Copy)]
+pub enum Quantifier {
+    Ex,
+    All,
+}
+
+/// What may stand between two disjunctions.
+#[derive(Clone, Copy)]
+pub enum Arrow {
+    Implies,
+    Iff,
+}
+
+/// The formula that binds a name.
+fn quantified(
+    alloc: Global,
+    quantifier: Quantifier,
+    name: Name,
+    body: Formula,
+) -> Result<Formula, OutOfMemory>
+    ensures { IfOk result (λ f. tree_of f ≡ bound quantifier name (tree_of body)) }
 {
     let body = Box::new(alloc, body)?;
-    if all {
-        Ok(Formula::All(name, body))
-    } else {
-        Ok(Formula::Ex(name, body))
+    match quantifier {
+        Quantifier::Ex => Ok(Formula::Ex(name, body)),
+        Quantifier::All => Ok(Formula::All(name, body)),
     }
 }
 
-/// The formula with `iff` or `implies` between two.
-fn linked(alloc: Global, both: bool, left: Formula, right: Formula) -> Result<Formula, OutOfMemory>
-    ensures { IfOk result (λ f. tree_of f ≡ linked both (tree_of left) (tree_of right)) }
+/// The formula with an arrow between two.
+fn linked(
+    alloc: Global,
+    arrow: Arrow,
+    left: Formula,
+    right: Formula,
+) -> Result<Formula, OutOfMemory>
+    ensures { IfOk result (λ f. tree_of f ≡ linked arrow (tree_of left) (tree_of right)) }
 {
     let left = Box::new(alloc, left)?;
     let right = Box::new(alloc, right)?;
-    if both {
-        Ok(Formula::Iff(left, right))
-    } else {
-        Ok(Formula::Implies(left, right))
+    match arrow {
+        Arrow::Implies => Ok(Formula::Implies(left, right)),
+        Arrow::Iff => Ok(Formula::Iff(left, right)),
     }
 }
 
@@ -79,24 +100,24 @@ impl<'a> Parser<'a> {
         Ok(())
     }
 
-    /// Whether the quantifier that comes next, if one does, is `all`.
-    fn quantifier(&self) -> Option<bool>
+    /// The quantifier that comes next, if one does.
+    fn quantifier(&self) -> Option<Quantifier>
         ensures { result ≡ next_quantifier (head self.now.cursor) }
     {
         match self.cursor.peek() {
-            Some(Token::Ex) => Some(false),
-            Some(Token::All) => Some(true),
+            Some(Token::Ex) => Some(Quantifier::Ex),
+            Some(Token::All) => Some(Quantifier::All),
             _ => None,
         }
     }
 
-    /// Whether the arrow that comes next, if one does, is `iff`.
-    fn arrow(&self) -> Option<bool>
+    /// The arrow that comes next, if one does.
+    fn arrow(&self) -> Option<Arrow>
         ensures { result ≡ next_arrow (head self.now.cursor) }
     {
         match self.cursor.peek() {
-            Some(Token::Implies) => Some(false),
-            Some(Token::Iff) => Some(true),
+            Some(Token::Implies) => Some(Arrow::Implies),
+            Some(Token::Iff) => Some(Arrow::Iff),
             _ => None,
         }
     }
@@ -178,7 +199,7 @@ impl<'a> Parser<'a> {
         requires { depth ≤ 256 }
         ensures { ReadsFormula (formula depth) on_simple formula_tree result self.old self.new }
     {
-        let Some(all) = self.quantifier() else {
+        let Some(quantifier) = self.quantifier() else {
             return self.simple(alloc, depth);
         };
         self.cursor.advance();
@@ -186,23 +207,23 @@ impl<'a> Parser<'a> {
             return Err(Stop::Limit(TextFault::Syntax));
         };
         self.bind(depth)?;
-        let body = self.scope(alloc, depth + 1, all)?;
-        Ok(quantified(alloc, all, name, body)?)
+        let body = self.scope(alloc, depth + 1, quantifier)?;
+        Ok(quantified(alloc, quantifier, name, body)?)
     }
 
     /// What follows a bound name: further names, a dot and a formula.
     #[cycle(formula)]
-    fn scope(&mut self, alloc: Global, depth: u32, all: bool) -> Result<Formula, Stop>
+    fn scope(&mut self, alloc: Global, depth: u32, quantifier: Quantifier) -> Result<Formula, Stop>
         requires { depth ≤ 256 }
-        ensures { ReadsFormula (scope depth) on_simple (scope_tree all) result self.old self.new }
+        ensures { ReadsFormula (scope depth) on_simple (scope_tree quantifier) result self.old self.new }
     {
         let Some(name) = self.cursor.name() else {
             self.cursor.expect(Token::Dot)?;
             return self.formula(alloc, depth);
         };
         self.bind(depth)?;
-        let body = self.scope(alloc, depth + 1, all)?;
-        Ok(quantified(alloc, all, name, body)?)
+        let body = self.scope(alloc, depth + 1, quantifier)?;
+        Ok(quantified(alloc, quantifier, name, body)?)
     }
 
     /// A disjunction, or two with an arrow between them.
@@ -212,7 +233,7 @@ impl<'a> Parser<'a> {
         ensures { ReadsFormula (simple depth) on_simple simple_tree result self.old self.new }
     {
         let left = self.disj(alloc, depth)?;
-        let Some(both) = self.arrow() else {
+        let Some(arrow) = self.arrow() else {
             return Ok(left);
         };
         self.cursor.advance();
@@ -220,7 +241,7 @@ impl<'a> Parser<'a> {
         if self.arrow().is_some() {
             return Err(Stop::Limit(TextFault::Syntax));
         }
-        Ok(linked(alloc, both, left, right)?)
+        Ok(linked(alloc, arrow, left, right)?)
     }
 
     /// A disjunction, or a conjunction alone.

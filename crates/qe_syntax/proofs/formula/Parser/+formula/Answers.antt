@@ -15,23 +15,23 @@ use Rattle.qe_syntax.proofs.formula.Parser.+formula.Goals as goal
 pub formula-returns-in_err-bind : goal.formula-returns-in_err-bind
 formula-returns-in_err-bind t c =
     let p = err_from_is_err_and c.from_residual.result c.from_residual.ensures.1 in
-    let m = next_is c.args.self.now.cursor c.advance.new.self (quantifier_token c.in-Some.all) c.advance.ensures.rest (quantifier_head (head c.args.self.now.cursor) c.in-Some.all (sym c.in-Some.ensures)) in
-    rw (p.1, p.2) (bind_err c.args.depth c.in-Some.all c.in-Some-name.name c.in_err-bind.field-0.0 c.args.self.now.cursor c.advance.new.self c.bind.new.self.cursor c.args.self.now.begun c.bind.new.self.begun m (sym c.in-Some-name.ensures) c.in_err-bind.ensures)
+    let m = next_is c.args.self.now.cursor c.advance.new.self (quantifier_token c.in-Some.quantifier) c.advance.ensures.rest (quantifier_head (head c.args.self.now.cursor) c.in-Some.quantifier (sym c.in-Some.ensures)) in
+    rw (p.1, p.2) (bind_err c.args.depth c.in-Some.quantifier c.in-Some-name.name c.in_err-bind.field-0.0 c.args.self.now.cursor c.advance.new.self c.bind.new.self.cursor c.args.self.now.begun c.bind.new.self.begun m (sym c.in-Some-name.ensures) c.in_err-bind.ensures)
 
 pub formula-returns-in_err-body : goal.formula-returns-in_err-body
 formula-returns-in_err-body t c =
     let p = err_from_is_err_and c.from_residual-in_err-body.result c.from_residual-in_err-body.ensures.1 in
-    let m = next_is c.args.self.now.cursor c.advance.new.self (quantifier_token c.in-Some.all) c.advance.ensures.rest (quantifier_head (head c.args.self.now.cursor) c.in-Some.all (sym c.in-Some.ensures)) in
-    rw (p.1, p.2) (scope_err c.args.depth c.in-Some.all c.in-Some-name.name c.in_err-body.field-0.0 c.args.self.now.cursor c.advance.new.self c.bind.new.self.cursor c.scope.new.self.cursor c.args.self.now.begun c.bind.new.self.begun c.scope.new.self.begun m (sym c.in-Some-name.ensures) c.in_ok-bind.ensures c.in_err-body.ensures)
+    let m = next_is c.args.self.now.cursor c.advance.new.self (quantifier_token c.in-Some.quantifier) c.advance.ensures.rest (quantifier_head (head c.args.self.now.cursor) c.in-Some.quantifier (sym c.in-Some.ensures)) in
+    rw (p.1, p.2) (scope_err c.args.depth c.in-Some.quantifier c.in-Some-name.name c.in_err-body.field-0.0 c.args.self.now.cursor c.advance.new.self c.bind.new.self.cursor c.scope.new.self.cursor c.args.self.now.begun c.bind.new.self.begun c.scope.new.self.begun m (sym c.in-Some-name.ensures) c.in_ok-bind.ensures c.in_err-body.ensures)
 
 pub formula-returns-in_default : goal.formula-returns-in_default
 formula-returns-in_default t c = search (rules, simple_through)
 
 pub formula-returns-in_default-name : goal.formula-returns-in_default-name
 formula-returns-in_default-name t c =
-    let m = next_is c.args.self.now.cursor c.advance.new.self (quantifier_token c.in-Some.all) c.advance.ensures.rest (quantifier_head (head c.args.self.now.cursor) c.in-Some.all (sym c.in-Some.ensures)) in
+    let m = next_is c.args.self.now.cursor c.advance.new.self (quantifier_token c.in-Some.quantifier) c.advance.ensures.rest (quantifier_head (head c.args.self.now.cursor) c.in-Some.quantifier (sym c.in-Some.ensures)) in
     let n : next_name (head c.advance.new.self) ≡ None = search rules in
-    name_missing c.args.depth c.in-Some.all c.args.self.now.cursor c.advance.new.self c.args.self.now.begun m n
+    name_missing c.args.depth c.in-Some.quantifier c.args.self.now.cursor c.advance.new.self c.args.self.now.begun m n
 
 pub formula-returns : goal.formula-returns
 formula-returns t c = search (rules, read_quantified, next_is, quantifier_head)
@@ -40,7 +40,7 @@ pub scope-returns-in_err-expect : goal.scope-returns-in_err-expect
 scope-returns-in_err-expect t c =
     let p = err_from_is_err_and c.from_residual.result c.from_residual.ensures.1 in
     let n : next_name (head c.args.self.now.cursor) ≡ None = search rules in
-    rw (p.1, p.2) (dot_err c.args.depth c.args.all c.in_err-expect.field-0.0 c.args.self.now.cursor c.expect.new.self c.args.self.now.begun c.args.self.now.begun n c.in_err-expect.ensures)
+    rw (p.1, p.2) (dot_err c.args.depth c.args.quantifier c.in_err-expect.field-0.0 c.args.self.now.cursor c.expect.new.self c.args.self.now.begun c.args.self.now.begun n c.in_err-expect.ensures)
 
 pub scope-returns-in_default : goal.scope-returns-in_default
 scope-returns-in_default t c = search (rules, body_through)
@@ -48,12 +48,12 @@ scope-returns-in_default t c = search (rules, body_through)
 pub scope-returns-in_err-bind : goal.scope-returns-in_err-bind
 scope-returns-in_err-bind t c =
     let p = err_from_is_err_and c.from_residual-in_err-bind.result c.from_residual-in_err-bind.ensures.1 in
-    rw (p.1, p.2) (further_err c.args.depth c.args.all c.in-Some.name c.in_err-bind.field-0.0 c.args.self.now.cursor c.bind.new.self.cursor c.args.self.now.begun c.bind.new.self.begun (sym c.in-Some.ensures) c.in_err-bind.ensures)
+    rw (p.1, p.2) (further_err c.args.depth c.args.quantifier c.in-Some.name c.in_err-bind.field-0.0 c.args.self.now.cursor c.bind.new.self.cursor c.args.self.now.begun c.bind.new.self.begun (sym c.in-Some.ensures) c.in_err-bind.ensures)
 
 pub scope-returns-in_err-body : goal.scope-returns-in_err-body
 scope-returns-in_err-body t c =
     let p = err_from_is_err_and c.from_residual-in_err-body.result c.from_residual-in_err-body.ensures.1 in
-    rw (p.1, p.2) (inner_err c.args.depth c.args.all c.in-Some.name c.in_err-body.field-0.0 c.args.self.now.cursor c.bind.new.self.cursor c.scope.new.self.cursor c.args.self.now.begun c.bind.new.self.begun c.scope.new.self.begun (sym c.in-Some.ensures) c.in_ok-bind.ensures c.in_err-body.ensures)
+    rw (p.1, p.2) (inner_err c.args.depth c.args.quantifier c.in-Some.name c.in_err-body.field-0.0 c.args.self.now.cursor c.bind.new.self.cursor c.scope.new.self.cursor c.args.self.now.begun c.bind.new.self.begun c.scope.new.self.begun (sym c.in-Some.ensures) c.in_ok-bind.ensures c.in_err-body.ensures)
 
 pub scope-returns : goal.scope-returns
 scope-returns t c = search (rules, read_further)
@@ -67,20 +67,20 @@ simple-returns-in_default t c = search (rules, read_alone, simple_ends)
 pub simple-returns-in_err-right : goal.simple-returns-in_err-right
 simple-returns-in_err-right t c =
     let p = err_from_is_err_and c.from_residual-in_err-right.result c.from_residual-in_err-right.ensures.1 in
-    let m = next_is c.disj.new.self.cursor c.advance.new.self (arrow_token c.in-Some.both) c.advance.ensures.rest (arrow_head (head c.disj.new.self.cursor) c.in-Some.both (sym c.in-Some.ensures)) in
-    rw (p.1, p.2) (right_err c.args.depth c.in-Some.both c.in_err-right.field-0.0 (tree_of c.in_ok-left.left) (with_end c.args.self.now.cursor) (with_end c.disj.new.self.cursor) (with_end c.advance.new.self) (with_end c.disj-2.new.self.cursor) c.args.self.now.begun c.disj.new.self.begun c.disj-2.new.self.begun m c.in_ok-left.ensures c.in_err-right.ensures)
+    let m = next_is c.disj.new.self.cursor c.advance.new.self (arrow_token c.in-Some.arrow) c.advance.ensures.rest (arrow_head (head c.disj.new.self.cursor) c.in-Some.arrow (sym c.in-Some.ensures)) in
+    rw (p.1, p.2) (right_err c.args.depth c.in-Some.arrow c.in_err-right.field-0.0 (tree_of c.in_ok-left.left) (with_end c.args.self.now.cursor) (with_end c.disj.new.self.cursor) (with_end c.advance.new.self) (with_end c.disj-2.new.self.cursor) c.args.self.now.begun c.disj.new.self.begun c.disj-2.new.self.begun m c.in_ok-left.ensures c.in_err-right.ensures)
 
 pub simple-returns-then-is_some : goal.simple-returns-then-is_some
 simple-returns-then-is_some t c =
-    let m = next_is c.disj.new.self.cursor c.advance.new.self (arrow_token c.in-Some.both) c.advance.ensures.rest (arrow_head (head c.disj.new.self.cursor) c.in-Some.both (sym c.in-Some.ensures)) in
+    let m = next_is c.disj.new.self.cursor c.advance.new.self (arrow_token c.in-Some.arrow) c.advance.ensures.rest (arrow_head (head c.disj.new.self.cursor) c.in-Some.arrow (sym c.in-Some.ensures)) in
     let h : is_some (next_arrow (head c.disj-2.new.self.cursor)) ≡ true = search rules in
-    second_arrow c.args.depth c.in-Some.both (tree_of c.in_ok-left.left) (tree_of c.in_ok-right.right) (with_end c.args.self.now.cursor) (with_end c.disj.new.self.cursor) (with_end c.advance.new.self) c.disj-2.new.self.cursor c.args.self.now.begun c.disj.new.self.begun c.disj-2.new.self.begun m c.in_ok-left.ensures c.in_ok-right.ensures h
+    second_arrow c.args.depth c.in-Some.arrow (tree_of c.in_ok-left.left) (tree_of c.in_ok-right.right) (with_end c.args.self.now.cursor) (with_end c.disj.new.self.cursor) (with_end c.advance.new.self) c.disj-2.new.self.cursor c.args.self.now.begun c.disj.new.self.begun c.disj-2.new.self.begun m c.in_ok-left.ensures c.in_ok-right.ensures h
 
 pub simple-returns : goal.simple-returns
 simple-returns t c =
-    let m = next_is c.disj.new.self.cursor c.advance.new.self (arrow_token c.in-Some.both) c.advance.ensures.rest (arrow_head (head c.disj.new.self.cursor) c.in-Some.both (sym c.in-Some.ensures)) in
+    let m = next_is c.disj.new.self.cursor c.advance.new.self (arrow_token c.in-Some.arrow) c.advance.ensures.rest (arrow_head (head c.disj.new.self.cursor) c.in-Some.arrow (sym c.in-Some.ensures)) in
     let h : is_some (next_arrow (head c.disj-2.new.self.cursor)) ≡ false = search rules in
-    read_joined c.args.depth c.in-Some.both _ (tree_of c.in_ok-left.left) (tree_of c.in_ok-right.right) (with_end c.args.self.now.cursor) (with_end c.disj.new.self.cursor) (with_end c.advance.new.self) c.disj-2.new.self.cursor c.args.self.now.begun c.disj.new.self.begun c.disj-2.new.self.begun c.in_ok-linked.ensures m c.in_ok-left.ensures c.in_ok-right.ensures h
+    read_joined c.args.depth c.in-Some.arrow _ (tree_of c.in_ok-left.left) (tree_of c.in_ok-right.right) (with_end c.args.self.now.cursor) (with_end c.disj.new.self.cursor) (with_end c.advance.new.self) c.disj-2.new.self.cursor c.args.self.now.begun c.disj.new.self.begun c.disj-2.new.self.begun c.in_ok-linked.ensures m c.in_ok-left.ensures c.in_ok-right.ensures h
 
 pub disj-returns-in_err-first : goal.disj-returns-in_err-first
 disj-returns-in_err-first t c = let p = err_from_is_err_and c.from_residual.result c.from_residual.ensures.1 in rw (p.1, p.2) (search (rules, disj_first_err))
