@@ -22,7 +22,7 @@ use Rattle.qe_read.specs.declared.scope.Binder.{Binder}
 use Rattle.qe_read.specs.declared.value.Met.{Met}
 use Rattle.qe_read.specs.Names.{Letters, letters, letters_cmp, is_same, names_before, bound_to, or_free, variable}
 use Rattle.qe_read.specs.FreeNames.{is_bound, free_in, free_in_addends, free_in_factors, free_names, free_names_each}
-use Rattle.qe_read.specs.Value.{proceed, value, added}
+use Rattle.qe_read.specs.Value.{proceed, value, subtracted}
 use Rattle.qe_read.specs.Formula.{bound_names, names_bound_in, binder, atom_value, formula, formulas}
 use Rattle.qe_form.specs.Tree as code
 use Rattle.qe_form.specs.declared.names.Input.{Input}
@@ -198,7 +198,7 @@ module _ (text : List ℕ) (free : List Letters) where
   frees_atom enclosing t u p r h k =
       gives_equal (Frees enclosing) (value (variable text free enclosing) t) _ (λ a ea.
       gives_equal (Frees enclosing) (value (variable text free enclosing) u) _ (λ b eb.
-      gives_equal (Frees enclosing) (added p true a b) _ (λ d ed. λ x o.
+      gives_equal (Frees enclosing) (subtracted p a b) _ (λ d ed. λ x o.
       in_polynomial (Known enclosing) x d
       (of_added (Known enclosing) (variable text free enclosing) p true a b d
       (of_value (Known enclosing) (variable text free enclosing) t a (all_known enclosing t h) ea)
@@ -279,7 +279,7 @@ module _ (text : List ℕ) (free : List Letters) where
     bind enclosing bound (tree.Atom t p r u) =
         gives_equal (Binders bound (tree.Atom t p r u)) (value (variable text free enclosing) t) _ (λ a ea.
         gives_equal (Binders bound (tree.Atom t p r u)) (value (variable text free enclosing) u) _ (λ b eb.
-        gives_equal (Binders bound (tree.Atom t p r u)) (added p true a b) _ (λ d ed. refl)))
+        gives_equal (Binders bound (tree.Atom t p r u)) (subtracted p a b) _ (λ d ed. refl)))
     bind enclosing bound (tree.And fs) = gives_next (BindersEach bound fs) (Binders bound (tree.And fs)) (formulas text free enclosing bound fs) _ (bind_each enclosing bound fs) (λ gs k. k)
     bind enclosing bound (tree.Or fs) = gives_next (BindersEach bound fs) (Binders bound (tree.Or fs)) (formulas text free enclosing bound fs) _ (bind_each enclosing bound fs) (λ gs k. k)
     bind enclosing bound (tree.Not f) = gives_next (Binders bound f) (Binders bound (tree.Not f)) (formula text free enclosing bound f) _ (bind enclosing bound f) (λ g k. k)

@@ -9,7 +9,7 @@ use Rattle.qe_poly.specs.Limits.{sum_limit, product_limit}
 use Rattle.qe_poly.specs.Polynomial.{Polynomial, constant, power_of, negative, sum, difference, product}
 use Rattle.qe_syntax.specs.Tree.{TermTree, Number, Variable, Negative, Power, Sum, Product, Addends, no_addend, addend, Factors, no_factor, factor}
 use Rattle.qe_read.specs.declared.value.Met.{Met}
-use Rattle.qe_read.specs.Value.{Value, proceed, at, added, multiplied, repeated, raised, power_value, as_name, literal, value, summed, factored}
+use Rattle.qe_read.specs.Value.{Value, proceed, at, signed_sum, multiplied, repeated, raised, power_value, as_name, literal, value, summed, factored}
 use Rattle.qe_read.proofs.Named.{all_in, all_in_addends, all_in_factors}
 use Rattle.qe_read.proofs.Kept.{front, behind}
 use Rattle.qe_read.proofs.Variables.{Have, of_negative, of_sum, of_difference, of_product, of_constant, of_power}
@@ -24,7 +24,7 @@ at_ok p None exact q h = cc
 at_ok p (Some limit) exact q h = absurd (cc)
 
 module _ (Q : ℕ → Type 0) (var : Name → Var) where
-  pub of_added : (p : ℕ) (minus : Bool) (a b q : Polynomial) → Have Q a → Have Q b → added p minus a b ≡ Ok q → Have Q q
+  pub of_added : (p : ℕ) (minus : Bool) (a b q : Polynomial) → Have Q a → Have Q b → signed_sum p minus a b ≡ Ok q → Have Q q
   of_added p true a b q h k e = subst (λ r. Have Q r) (at_ok p (sum_limit Sub a b) (difference a b) q e) (of_difference Q a b h k)
   of_added p false a b q h k e = subst (λ r. Have Q r) (at_ok p (sum_limit Add a b) (sum a b) q e) (of_sum Q a b h k)
 
@@ -76,8 +76,8 @@ module _ (Q : ℕ → Type 0) (var : Name → Var) where
     of_summed : (us : Addends) (a q : Polynomial) → Have Q a → All (all_in_addends us) → summed var us a ≡ Ok q → Have Q q
     of_summed no_addend a q k h e = ok a q k e
     of_summed (addend p minus t us) a q k h e =
-        let r = next_ok (value var t) (λ b. proceed (added p minus a b) (summed var us)) q e in
-        let s = next_ok (added p minus a r.0) (summed var us) q r.2 in
+        let r = next_ok (value var t) (λ b. proceed (signed_sum p minus a b) (summed var us)) q e in
+        let s = next_ok (signed_sum p minus a r.0) (summed var us) q r.2 in
         let b = of_value t r.0 (front (λ x. Q (var x).0) (all_in t) (all_in_addends us) h) r.1 in
         of_summed us s.0 q (of_added p minus a r.0 s.0 k b s.1) (behind (λ x. Q (var x).0) (all_in t) (all_in_addends us) h) s.2
 

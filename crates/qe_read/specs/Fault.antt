@@ -6,8 +6,9 @@ use Rattle.qe_syntax.specs.declared.fault.TextFault.{TextFault}
 use Rattle.qe_syntax.specs.declared.fault.TextFault.TheVariants as faults
 use Rattle.qe_syntax.specs.declared.fault.ParseStop.{ParseStop}
 use Rattle.qe_syntax.specs.declared.fault.ParseStop.TheVariants as parse
-use Rattle.qe_read.specs.declared.value.ValueStop.{ValueStop}
-use Rattle.qe_read.specs.declared.value.ValueStop.TheVariants as stop
+use Rattle.qe_halt.specs.declared.halt.Halt.{Halt}
+use Rattle.qe_halt.specs.declared.halt.Halt.TheVariants as halt
+use Rattle.qe_read.specs.declared.value.Met.{Met}
 use Rattle.qe_read.specs.declared.fault.ReadFault.{ReadFault}
 use Rattle.qe_read.specs.declared.fault.ReadFault.TheVariants as read
 
@@ -29,6 +30,6 @@ abbrev pub parse_fault : ParseStop → ReadFault
 parse_fault (parse.Fault fault p) = text_fault fault p
 parse_fault parse.OutOfMemory = read.OutOfMemory
 
-abbrev pub value_fault : ValueStop → ReadFault
-value_fault (stop.Met met) = limit_fault met.limit met.place
-value_fault stop.OutOfMemory = read.OutOfMemory
+abbrev pub value_fault : Halt Met → ReadFault
+value_fault (halt.Limit met) = limit_fault met.limit met.place
+value_fault halt.OutOfMemory = read.OutOfMemory

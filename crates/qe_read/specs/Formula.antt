@@ -1,28 +1,26 @@
 -- The formula that a tree stands for, or the first limit that an operation meets.
-use Rattle.std.specs.Prelude.{ℕ, ◌+◌, true, false, List, [], ◌∷◌, ◌++◌, length, Result, Ok, Err, ◌≡◌}
+use Rattle.std.specs.Prelude.{ℕ, ◌+◌, List, [], ◌∷◌, ◌++◌, length, Result, Ok}
 use Rattle.qe_token.specs.declared.token.Name.{Name}
 use Rattle.qe_token.specs.declared.token.Relation.{Relation}
 use Rattle.qe_token.specs.declared.token.Relation.TheVariants as relation
 use Rattle.qe_syntax.specs.Tree as syntax
 use Rattle.qe_syntax.specs.Tree.{TermTree, FormulaTree, FormulaTrees}
 use Rattle.qe_form.specs.declared.signs.Signs.{Signs}
-use Rattle.qe_form.specs.declared.form.Form as code
+use Rattle.qe_form.specs.Signs.{equal, not_equal, less, less_or_equal, greater, greater_or_equal}
 use Rattle.qe_form.specs.Formula.{Formula, Formulas, True, False, Atom, And, Or, Not, Implies, Iff, Ex, All, no_more, more}
-use Rattle.qe_form.specs.Tree.{tree, trees}
 use Rattle.qe_read.specs.declared.value.Met.{Met}
-use Rattle.qe_read.specs.declared.value.ValueStop.{ValueStop}
 use Rattle.qe_read.specs.declared.scope.Binder.{Binder}
 use Rattle.qe_read.specs.Names.{Letters, variable}
-use Rattle.qe_read.specs.Value.{Value, proceed, value, added, Stops}
+use Rattle.qe_read.specs.Value.{Value, proceed, value, subtracted}
 
 -- the signs that the left term less the right one may have
 abbrev pub relation_signs : Relation → Signs
-relation_signs relation.Equal = record { minus = false; zero = true; plus = false }
-relation_signs relation.NotEqual = record { minus = true; zero = false; plus = true }
-relation_signs relation.Less = record { minus = true; zero = false; plus = false }
-relation_signs relation.LessOrEqual = record { minus = true; zero = true; plus = false }
-relation_signs relation.Greater = record { minus = false; zero = false; plus = true }
-relation_signs relation.GreaterOrEqual = record { minus = false; zero = true; plus = true }
+relation_signs relation.Equal = equal
+relation_signs relation.NotEqual = not_equal
+relation_signs relation.Less = less
+relation_signs relation.LessOrEqual = less_or_equal
+relation_signs relation.Greater = greater
+relation_signs relation.GreaterOrEqual = greater_or_equal
 
 -- the names that the quantifiers bind, in the order of the text
 abbrev mutual
@@ -48,7 +46,7 @@ binder free bound x = record { name = x; var = record { 0 = length free + length
 
 -- left and right term, and then their difference at the place of the relation
 abbrev pub atom_value : ℕ → Relation → Value → Value → Result Formula Met
-atom_value p r left right = proceed left (λ a. proceed right (λ b. proceed (added p true a b) (λ d. Ok (Atom (record { poly = d; signs = relation_signs r })))))
+atom_value p r left right = proceed left (λ a. proceed right (λ b. proceed (subtracted p a b) (λ d. Ok (Atom (record { poly = d; signs = relation_signs r })))))
 
 -- both, one after the other
 abbrev pub pair_value : (Formula → Formula → Formula) → Result Formula Met → Result Formula Met → Result Formula Met
@@ -73,13 +71,3 @@ abbrev mutual
   formulas text free enclosing bound syntax.no_more = Ok no_more
   formulas text free enclosing bound (syntax.more f fs) =
       proceed (formula text free enclosing bound f) (λ g. proceed (formulas text free enclosing (bound ++ bound_names f) fs) (λ gs. Ok (more g gs)))
-
--- the formula, or why there is none; want of memory may come in place of either
-abbrev pub IsForm : Result Formula Met → Result code.Form ValueStop → Type 0
-IsForm v (Ok f) = v ≡ Ok (tree f)
-IsForm v (Err stop) = Stops v stop
-
--- the same of formulas in order
-abbrev pub AreForms : Result Formulas Met → Result (List code.Form) ValueStop → Type 0
-AreForms v (Ok fs) = v ≡ Ok (trees fs)
-AreForms v (Err stop) = Stops v stop

@@ -8,8 +8,8 @@ use Rattle.qe_poly.specs.Limits.{sum_limit, product_limit}
 use Rattle.qe_token.specs.declared.token.Name.{Name}
 use Rattle.qe_syntax.specs.Tree.{TermTree, Number, Variable, Negative, Power, Sum, Product, Addends, no_addend, addend, Factors, no_factor, factor}
 use Rattle.qe_read.specs.declared.value.Met.{Met}
-use Rattle.qe_read.specs.declared.value.ValueStop.{ValueStop}
-use Rattle.qe_read.specs.declared.value.ValueStop.TheVariants as stop
+use Rattle.qe_halt.specs.declared.halt.Halt.{Halt}
+use Rattle.qe_halt.specs.declared.halt.Halt.TheVariants.{Limit, OutOfMemory}
 
 -- a polynomial, or the first limit that was met, with the place of its operator
 abbrev pub Value : Type 0
@@ -25,9 +25,15 @@ abbrev pub at : ℕ → Option PolyLimit → Polynomial → Value
 at p None result = Ok result
 at p (Some limit) result = Err (record { place = p; limit = limit })
 
--- the sum, or the difference
-abbrev pub added : ℕ → Bool → Polynomial → Polynomial → Value
-added p minus a b = cond minus (at p (sum_limit Sub a b) (difference a b)) (at p (sum_limit Add a b) (sum a b))
+abbrev pub added : ℕ → Polynomial → Polynomial → Value
+added p a b = at p (sum_limit Add a b) (sum a b)
+
+abbrev pub subtracted : ℕ → Polynomial → Polynomial → Value
+subtracted p a b = at p (sum_limit Sub a b) (difference a b)
+
+-- the difference behind a minus, and else the sum
+abbrev pub signed_sum : ℕ → Bool → Polynomial → Polynomial → Value
+signed_sum p minus a b = cond minus (subtracted p a b) (added p a b)
 
 abbrev pub multiplied : ℕ → Polynomial → Polynomial → Value
 multiplied p a b = at p (product_limit a b) (product a b)
@@ -68,19 +74,18 @@ abbrev mutual
   -- with the later summands
   pub summed : (Name → Var) → Addends → Polynomial → Value
   summed var no_addend a = Ok a
-  summed var (addend p minus t us) a = proceed (value var t) (λ b. proceed (added p minus a b) (summed var us))
+  summed var (addend p minus t us) a = proceed (value var t) (λ b. proceed (signed_sum p minus a b) (summed var us))
 
   -- with the later factors
   pub factored : (Name → Var) → Factors → Polynomial → Value
   factored var no_factor a = Ok a
   factored var (factor p t us) a = proceed (value var t) (λ b. proceed (multiplied p a b) (factored var us))
 
--- the stop is what was met first, or want of memory
-abbrev pub Stops : {A : Type 0} → Result A Met → ValueStop → Type 0
-Stops v (stop.Met met) = v ≡ Err met
-Stops v stop.OutOfMemory = Unit {0}
+-- A call's result, as `seen` sees it, is this value, or the limit in its place; out of memory may come in place of either.
+abbrev pub IsValueBy : {A B : Type 0} → (B → A) → Result A Met → Result B (Halt Met) → Type 0
+IsValueBy seen v (Ok b) = v ≡ Ok (seen b)
+IsValueBy seen v (Err (Limit met)) = v ≡ Err met
+IsValueBy seen v (Err OutOfMemory) = Unit {0}
 
--- the value, or why there is none; want of memory may come in place of either
-abbrev pub IsValue : Value → Result Polynomial ValueStop → Type 0
-IsValue v (Ok p) = v ≡ Ok p
-IsValue v (Err stop) = Stops v stop
+abbrev pub IsValue : Value → Result Polynomial (Halt Met) → Type 0
+IsValue = IsValueBy (λ p. p)

@@ -8,7 +8,7 @@ use qe_poly::PolyLimit;
 use qe_syntax::{ParseStop, TextFault};
 use std::alloc::AllocError;
 
-/// The first fault of a text, with the offset of its token or of its operator, or the want of memory.
+/// The first fault of a text, with the offset of its token or of its operator; or out of memory.
 ///
 /// A fault of the grammar or of its limits comes before every limit of polynomials.
 #[derive(Debug, Drop)]
@@ -66,7 +66,7 @@ impl From<ValueStop> for ReadFault {
     ghost from_gives = { λ stop e. e ≡ value_fault stop };
 
     fn from(stop: ValueStop) -> ReadFault {
-        let ValueStop::Met(Met { place, limit }) = stop else {
+        let ValueStop::Limit(Met { place, limit }) = stop else {
             return ReadFault::OutOfMemory;
         };
         match limit {

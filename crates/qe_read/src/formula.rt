@@ -1,173 +1,137 @@
 //! The formula of a tree: its variables and its polynomials.
 
-ghost use Rattle.std.specs.Prelude.{◌≡◌, ◌+◌, ◌<◌, ◌^◌, ◌++◌, ◌∷◌, [], length, map, Ok, IfOk, OnOk};
-ghost use Rattle.qe_form.specs.Formula.{Formula as FormTree, And, Or};
+ghost use Rattle.std.specs.Prelude.{◌≡◌, ◌+◌, ◌<◌, ◌^◌, ◌++◌, ◌∷◌, [], length, map, OnOk};
 ghost use Rattle.qe_form.specs.Tree.{tree, trees};
 ghost use Rattle.qe_syntax.specs.Code.{term_of, tree_of, as_parts};
 ghost use Rattle.qe_read.specs.Names.{variable};
-ghost use Rattle.qe_read.specs.Value.{value as value_of, Stops};
-ghost use Rattle.qe_read.specs.Formula.{relation_signs, atom_value, bound_names, names_bound_in, formula as formula_value, formulas as formula_values, IsForm, AreForms};
+ghost use Rattle.qe_read.specs.Value.{value as value_of, IsValueBy};
+ghost use Rattle.qe_read.specs.Formula.{relation_signs, atom_value, bound_names, names_bound_in, formula as formula_value, formulas as formula_values};
 
-use crate::scope::{Binder, Context};
-use crate::value::{ValueStop, add, value};
+use crate::scope::{Binder, Context, Scope};
+use crate::value::{ValueStop, subtract};
 use qe_form::{Atom, Form, Forms, Sequence, Signs};
 use qe_poly::Var;
-use qe_syntax::{Comparison, Formula, Name, Relation};
-use std::alloc::Global;
+use qe_syntax::{Comparison, Formula, Relation};
 
 /// The signs that the left term less the right one may have.
 fn relation_signs(relation: Relation) -> Signs
     ensures { result ≡ relation_signs relation }
 {
     match relation {
-        Relation::Equal => Signs::of(false, true, false),
-        Relation::NotEqual => Signs::of(true, false, true),
-        Relation::Less => Signs::of(true, false, false),
-        Relation::LessOrEqual => Signs::of(true, true, false),
-        Relation::Greater => Signs::of(false, false, true),
-        Relation::GreaterOrEqual => Signs::of(false, true, true),
+        Relation::Equal => Signs::EQUAL,
+        Relation::NotEqual => Signs::NOT_EQUAL,
+        Relation::Less => Signs::LESS,
+        Relation::LessOrEqual => Signs::LESS_OR_EQUAL,
+        Relation::Greater => Signs::GREATER,
+        Relation::GreaterOrEqual => Signs::GREATER_OR_EQUAL,
     }
 }
 
-/// The polynomial of the left term less the right one, with the signs that the relation allows.
-fn read_atom(
-    alloc: Global,
-    context: &Context,
-    enclosing: &[Binder],
-    comparison: &Comparison,
-) -> Result<Form, ValueStop>
-    ensures { let var = variable context.now.text.now context.now.free.now enclosing.now in
-        IsForm (atom_value comparison.now.place comparison.now.relation (value_of var (term_of comparison.now.left)) (value_of var (term_of comparison.now.right))) result }
-{
-    let left = value(alloc, context, enclosing, &comparison.left)?;
-    let right = value(alloc, context, enclosing, &comparison.right)?;
-    Ok(Form::Atom(Atom {
-        poly: add(alloc, comparison.place, true, &left, &right)?,
-        signs: relation_signs(comparison.relation),
-    }))
-}
+impl Context<'_, '_> {
+    /// The polynomial of the left term less the right one, with the signs that the relation allows.
+    fn atom(&self, enclosing: &[Binder], comparison: &Comparison) -> Result<Form, ValueStop>
+        ensures { let var = variable self.now.text.now self.now.free.now enclosing.now in
+            let left = value_of var (term_of comparison.now.left) in
+            let right = value_of var (term_of comparison.now.right) in
+            IsValueBy tree (atom_value comparison.now.place comparison.now.relation left right) result }
+    {
+        let left = self.value(enclosing, &comparison.left)?;
+        let right = self.value(enclosing, &comparison.right)?;
+        Ok(Form::Atom(Atom {
+            poly: subtract(self.alloc, comparison.place, &left, &right)?,
+            signs: relation_signs(comparison.relation),
+        }))
+    }
 
-/// The variable that is bound next.
-fn next_var(context: &Context, bound: &[Name]) -> Var
-    requires { length context.now.free.now + length bound.now < 2 ^ 32 }
-    ensures { result ≡ record { 0 = length context.now.free.now + length bound.now } }
-{
-    Var((context.free.len() + bound.len()) as u32)
-}
+    /// The variable that is bound next.
+    fn next_var(&self, scope: &Scope) -> Var
+        requires { length self.now.free.now + length scope.now.bound.items < 2 ^ 32 }
+        ensures { result ≡ record { 0 = length self.now.free.now + length scope.now.bound.items } }
+    {
+        Var((self.free.len() + scope.bound.len()) as u32)
+    }
 
-/// The formula of a tree. `enclosing` are the binders around it, the outermost first, and are left as they were.
-/// `bound` are the names that were bound before it in the text, and then also those that it binds.
-#[cycle(formula)]
-pub fn read_formula(
-    alloc: Global,
-    context: &Context,
-    enclosing: &mut Vec<Binder>,
-    bound: &mut Vec<Name>,
-    formula: &Formula,
-) -> Result<Form, ValueStop>
-    requires { length context.now.free.now + length bound.old.items + length (bound_names (tree_of formula.now)) < 2 ^ 32 }
-    ensures form { IsForm (formula_value context.now.text.now context.now.free.now enclosing.old.items bound.old.items (tree_of formula.now)) result }
-    ensures enclosing { OnOk result (enclosing.new.items ≡ enclosing.old.items) }
-    ensures bound { OnOk result (bound.new.items ≡ bound.old.items ++ bound_names (tree_of formula.now)) }
-{
-    match formula {
-        Formula::True => Ok(Form::True),
-        Formula::False => Ok(Form::False),
-        Formula::Atom(comparison) => read_atom(alloc, context, enclosing, comparison),
-        Formula::And(parts) => Ok(Form::And(read_formulas(
-            alloc,
-            context,
-            enclosing,
-            bound,
-            parts.items(),
-        )?)),
-        Formula::Or(parts) => Ok(Form::Or(read_formulas(
-            alloc,
-            context,
-            enclosing,
-            bound,
-            parts.items(),
-        )?)),
-        Formula::Not(inner) => {
-            let inner = read_formula(alloc, context, enclosing, bound, inner)?;
-            Ok(Form::Not(Box::new(alloc, inner)?))
-        }
-        Formula::Implies(left, right) => {
-            let left = read_formula(alloc, context, enclosing, bound, left)?;
-            let right = read_formula(alloc, context, enclosing, bound, right)?;
-            Ok(Form::Implies(Box::new(alloc, left)?, Box::new(alloc, right)?))
-        }
-        Formula::Iff(left, right) => {
-            let left = read_formula(alloc, context, enclosing, bound, left)?;
-            let right = read_formula(alloc, context, enclosing, bound, right)?;
-            Ok(Form::Iff(Box::new(alloc, left)?, Box::new(alloc, right)?))
-        }
-        Formula::Ex(name, body) => {
-            let var = next_var(context, bound);
-            let body = read_body(
-                alloc,
-                context,
-                enclosing,
-                bound,
-                Binder { name: *name, var },
-                body,
-            )?;
-            Ok(Form::Ex(var, Box::new(alloc, body)?))
-        }
-        Formula::All(name, body) => {
-            let var = next_var(context, bound);
-            let body = read_body(
-                alloc,
-                context,
-                enclosing,
-                bound,
-                Binder { name: *name, var },
-                body,
-            )?;
-            Ok(Form::All(var, Box::new(alloc, body)?))
+    /// The formula of a tree. The binders around it are left as they were, and the names that it binds
+    /// are appended to those that were bound before.
+    #[cycle(formula)]
+    pub fn formula(&self, scope: &mut Scope, formula: &Formula) -> Result<Form, ValueStop>
+        requires { length self.now.free.now + length scope.old.bound.items + length (bound_names (tree_of formula.now)) < 2 ^ 32 }
+        ensures form { IsValueBy tree (formula_value self.now.text.now self.now.free.now scope.old.enclosing.items scope.old.bound.items (tree_of formula.now)) result }
+        ensures enclosing { OnOk result (scope.new.enclosing.items ≡ scope.old.enclosing.items) }
+        ensures bound { OnOk result (scope.new.bound.items ≡ scope.old.bound.items ++ bound_names (tree_of formula.now)) }
+    {
+        match formula {
+            Formula::True => Ok(Form::True),
+            Formula::False => Ok(Form::False),
+            Formula::Atom(comparison) => self.atom(&scope.enclosing, comparison),
+            Formula::And(parts) => Ok(Form::And(self.formulas(scope, parts.items())?)),
+            Formula::Or(parts) => Ok(Form::Or(self.formulas(scope, parts.items())?)),
+            Formula::Not(inner) => Ok(Form::Not(self.boxed(scope, inner)?)),
+            Formula::Implies(left, right) => {
+                let left = self.boxed(scope, left)?;
+                Ok(Form::Implies(left, self.boxed(scope, right)?))
+            }
+            Formula::Iff(left, right) => {
+                let left = self.boxed(scope, left)?;
+                Ok(Form::Iff(left, self.boxed(scope, right)?))
+            }
+            Formula::Ex(name, body) => {
+                let var = self.next_var(scope);
+                let binder = Binder { name: *name, var };
+                Ok(Form::Ex(var, self.body(scope, binder, body)?))
+            }
+            Formula::All(name, body) => {
+                let var = self.next_var(scope);
+                let binder = Binder { name: *name, var };
+                Ok(Form::All(var, self.body(scope, binder, body)?))
+            }
         }
     }
-}
 
-/// The formula of a body inside one more binder.
-#[cycle(formula)]
-fn read_body(
-    alloc: Global,
-    context: &Context,
-    enclosing: &mut Vec<Binder>,
-    bound: &mut Vec<Name>,
-    binder: Binder,
-    body: &Formula,
-) -> Result<Form, ValueStop>
-    requires { length context.now.free.now + length bound.old.items + 1 + length (bound_names (tree_of body.now)) < 2 ^ 32 }
-    ensures form { IsForm (formula_value context.now.text.now context.now.free.now (enclosing.old.items ++ binder ∷ []) (bound.old.items ++ binder.name ∷ []) (tree_of body.now)) result }
-    ensures enclosing { OnOk result (enclosing.new.items ≡ enclosing.old.items) }
-    ensures bound { OnOk result (bound.new.items ≡ bound.old.items ++ binder.name ∷ bound_names (tree_of body.now)) }
-{
-    enclosing.push(binder)?;
-    bound.push(binder.name)?;
-    let form = read_formula(alloc, context, enclosing, bound, body)?;
-    enclosing.pop();
-    Ok(form)
-}
-
-/// The formulas of trees in order.
-#[cycle(formula)]
-fn read_formulas(
-    alloc: Global,
-    context: &Context,
-    enclosing: &mut Vec<Binder>,
-    bound: &mut Vec<Name>,
-    formulas: &[Formula],
-) -> Result<Forms, ValueStop>
-    requires { length context.now.free.now + length bound.old.items + length (names_bound_in (as_parts (map tree_of formulas.now))) < 2 ^ 32 }
-    ensures form { AreForms (formula_values context.now.text.now context.now.free.now enclosing.old.items bound.old.items (as_parts (map tree_of formulas.now))) result }
-    ensures enclosing { OnOk result (enclosing.new.items ≡ enclosing.old.items) }
-    ensures bound { OnOk result (bound.new.items ≡ bound.old.items ++ names_bound_in (as_parts (map tree_of formulas.now))) }
-{
-    let mut forms = Sequence::new(alloc);
-    for formula in formulas {
-        forms.push(read_formula(alloc, context, enclosing, bound, formula)?)?;
+    /// The same in a box.
+    #[cycle(formula)]
+    fn boxed(&self, scope: &mut Scope, formula: &Formula) -> Result<Box<Form>, ValueStop>
+        requires { length self.now.free.now + length scope.old.bound.items + length (bound_names (tree_of formula.now)) < 2 ^ 32 }
+        ensures form { IsValueBy (λ form. tree form.value) (formula_value self.now.text.now self.now.free.now scope.old.enclosing.items scope.old.bound.items (tree_of formula.now)) result }
+        ensures enclosing { OnOk result (scope.new.enclosing.items ≡ scope.old.enclosing.items) }
+        ensures bound { OnOk result (scope.new.bound.items ≡ scope.old.bound.items ++ bound_names (tree_of formula.now)) }
+    {
+        let form = self.formula(scope, formula)?;
+        Ok(Box::new(self.alloc, form)?)
     }
-    Ok(forms)
+
+    /// The formula of a body inside one more binder.
+    #[cycle(formula)]
+    fn body(
+        &self,
+        scope: &mut Scope,
+        binder: Binder,
+        body: &Formula,
+    ) -> Result<Box<Form>, ValueStop>
+        requires { length self.now.free.now + length scope.old.bound.items + 1 + length (bound_names (tree_of body.now)) < 2 ^ 32 }
+        ensures form { IsValueBy (λ form. tree form.value) (formula_value self.now.text.now self.now.free.now (scope.old.enclosing.items ++ binder ∷ []) (scope.old.bound.items ++ binder.name ∷ []) (tree_of body.now)) result }
+        ensures enclosing { OnOk result (scope.new.enclosing.items ≡ scope.old.enclosing.items) }
+        ensures bound { OnOk result (scope.new.bound.items ≡ scope.old.bound.items ++ binder.name ∷ bound_names (tree_of body.now)) }
+    {
+        scope.enclosing.push(binder)?;
+        scope.bound.push(binder.name)?;
+        let form = self.boxed(scope, body)?;
+        scope.enclosing.pop();
+        Ok(form)
+    }
+
+    /// The formulas of trees in order.
+    #[cycle(formula)]
+    fn formulas(&self, scope: &mut Scope, formulas: &[Formula]) -> Result<Forms, ValueStop>
+        requires { length self.now.free.now + length scope.old.bound.items + length (names_bound_in (as_parts (map tree_of formulas.now))) < 2 ^ 32 }
+        ensures form { IsValueBy trees (formula_values self.now.text.now self.now.free.now scope.old.enclosing.items scope.old.bound.items (as_parts (map tree_of formulas.now))) result }
+        ensures enclosing { OnOk result (scope.new.enclosing.items ≡ scope.old.enclosing.items) }
+        ensures bound { OnOk result (scope.new.bound.items ≡ scope.old.bound.items ++ names_bound_in (as_parts (map tree_of formulas.now))) }
+    {
+        let mut forms = Sequence::new(self.alloc);
+        for formula in formulas {
+            forms.push(self.formula(scope, formula)?)?;
+        }
+        Ok(forms)
+    }
 }

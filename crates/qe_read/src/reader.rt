@@ -14,10 +14,9 @@ ghost use Rattle.qe_read.specs.Numbered.{IsWellNumbered};
 ghost use Rattle.qe_read.specs.Input.{IsInput, Answers, IsReadAs, AnswersTree};
 
 use crate::fault::ReadFault;
-use crate::formula::read_formula;
 use crate::free_names::FreeNames;
 use crate::occurrence::push_free;
-use crate::scope::{Context, letters};
+use crate::scope::{Context, Scope, letters};
 use crate::{Input, OutOfMemory};
 use qe_form::Names;
 use qe_syntax::{Formula, Name, parse};
@@ -37,18 +36,18 @@ fn spelled(alloc: Global, letters: &[u8]) -> Result<String, OutOfMemory>
 }
 
 /// The free names in their order, and then those that are bound.
-fn names_of(alloc: Global, context: &Context, bound: &[Name]) -> Result<Names, OutOfMemory>
+fn names_of(context: &Context, bound: &[Name]) -> Result<Names, OutOfMemory>
     requires few { length context.now.free.now + length bound.now < 2 ^ 32 }
     requires free { All IsUtf8 context.now.free.now }
     requires bound { All (λ x. IsUtf8 (letters_of context.now.text.now x)) bound.now }
     ensures { IfOk result (λ names. names ≡ context.now.free.now ++ map (letters_of context.now.text.now) bound.now) }
 {
-    let mut names = Names::new(alloc);
+    let mut names = Names::new(context.alloc);
     for free in context.free.names() {
-        names.push(spelled(alloc, free)?)?;
+        names.push(spelled(context.alloc, free)?)?;
     }
     for name in bound {
-        names.push(spelled(alloc, letters(context.text, *name))?)?;
+        names.push(spelled(context.alloc, letters(context.text, *name))?)?;
     }
     Ok(names)
 }
@@ -65,12 +64,13 @@ fn read_tree(alloc: Global, bytes: &[u8], formula: &Formula) -> Result<Input, Re
     push_free(&mut occurrences, bytes, &mut Vec::new(alloc), formula)?;
     let free = FreeNames::new(alloc, bytes, &occurrences)?;
     let context = Context {
+        alloc,
         text: bytes,
         free: &free,
     };
-    let mut bound = Vec::new(alloc);
-    let form = read_formula(alloc, &context, &mut Vec::new(alloc), &mut bound, formula)?;
-    let names = names_of(alloc, &context, &bound)?;
+    let mut scope = Scope::new(alloc);
+    let form = context.formula(&mut scope, formula)?;
+    let names = names_of(&context, &scope.bound)?;
     Ok(Input { form, names })
 }
 

@@ -1,11 +1,12 @@
 //! What names mean inside their binders.
 
-ghost use Rattle.std.specs.Prelude.{◌≡◌};
+ghost use Rattle.std.specs.Prelude.{◌≡◌, []};
 ghost use Rattle.qe_read.specs.Names.{letters, bound_to, variable};
 
 use crate::free_names::FreeNames;
 use qe_poly::Var;
 use qe_syntax::Name;
+use std::alloc::Global;
 
 /// A name that a quantifier binds, and its variable.
 #[derive(Clone, Copy, Debug, PartialEq, Eq)]
@@ -35,9 +36,32 @@ fn bound_to(text: &[u8], enclosing: &[Binder], spelled: &[u8]) -> Option<Var>
     found
 }
 
+/// What is bound where the reading of a formula stands.
+#[derive(Drop)]
+pub struct Scope {
+    /// The binders around, the outermost first.
+    pub enclosing: Vec<Binder>,
+    /// The names that were bound before, in the order of the text.
+    pub bound: Vec<Name>,
+}
+
+impl Scope {
+    /// Nothing is bound yet.
+    pub fn new(alloc: Global) -> Scope
+        ensures enclosing { result.enclosing.items ≡ [] }
+        ensures bound { result.bound.items ≡ [] }
+    {
+        Scope {
+            enclosing: Vec::new(alloc),
+            bound: Vec::new(alloc),
+        }
+    }
+}
+
 /// A text and the names that are free in it.
 #[derive(Drop)]
 pub struct Context<'a, 'b> {
+    pub alloc: Global,
     pub text: &'a [u8],
     pub free: &'b FreeNames<'a>,
 }

@@ -6,14 +6,14 @@ ghost use Rattle.qe_halt.specs.Outcome.{IsAnswer};
 ghost use Rattle.qe_poly.specs.Polynomial.{Polynomial};
 ghost use Rattle.qe_syntax.specs.Code.{term_of, addend_of, addends_of, factor_of, factors_of};
 ghost use Rattle.qe_read.specs.Names.{variable as variable_of};
-ghost use Rattle.qe_read.specs.Value.{IsValue, Stops, at, added, multiplied, raised, literal, as_name, value as value_of, summed, factored};
+ghost use Rattle.qe_read.specs.Value.{IsValue, at, added, subtracted, multiplied, raised, literal, as_name, value as value_of, summed, factored};
 
-use crate::free_names::FreeNames;
 use crate::scope::{Binder, Context};
 use qe_coef::Coef;
+use qe_halt::Halt;
 use qe_poly::{Poly, PolyLimit, PolyStop};
 use qe_syntax::{Addend, Factor, Name, Term};
-use std::alloc::{AllocError, AllocFailed, Global};
+use std::alloc::Global;
 
 /// A limit of polynomials that an operation met.
 #[derive(Clone, Copy, Debug, PartialEq, Eq)]
@@ -23,35 +23,8 @@ pub struct Met {
     pub limit: PolyLimit,
 }
 
-/// Why a term has no value.
-#[derive(Clone, Copy, Debug, PartialEq, Eq)]
-pub enum ValueStop {
-    /// The first limit that was met.
-    Met(Met),
-    OutOfMemory,
-}
-
-impl From<AllocError> for ValueStop {
-    ghost use Rattle.std.specs.Prelude.{◌≡◌};
-    ghost use Rattle.qe_read.specs.declared.value.ValueStop.{ValueStop};
-
-    ghost from_gives = { λ _ e. e ≡ ValueStop.OutOfMemory };
-
-    fn from(_error: AllocError) -> ValueStop {
-        ValueStop::OutOfMemory
-    }
-}
-
-impl<T: Drop> From<AllocFailed<T>> for ValueStop {
-    ghost use Rattle.std.specs.Prelude.{◌≡◌};
-    ghost use Rattle.qe_read.specs.declared.value.ValueStop.{ValueStop};
-
-    ghost from_gives = { λ _ e. e ≡ ValueStop.OutOfMemory };
-
-    fn from(_error: AllocFailed<T>) -> ValueStop {
-        ValueStop::OutOfMemory
-    }
-}
+/// Why a term has no value: the first limit that was met, or out of memory.
+pub type ValueStop = Halt<Met>;
 
 /// The coefficient of a number, which is at most `2^127 - 1` in a text.
 fn literal(number: u128) -> Coef
@@ -69,26 +42,21 @@ fn placed(place: u32, outcome: Result<Poly, PolyStop>) -> Result<Poly, ValueStop
 {
     match outcome {
         Ok(poly) => Ok(poly),
-        Err(PolyStop::Limit(limit)) => Err(ValueStop::Met(Met { place, limit })),
+        Err(PolyStop::Limit(limit)) => Err(ValueStop::Limit(Met { place, limit })),
         Err(PolyStop::OutOfMemory) => Err(ValueStop::OutOfMemory),
     }
 }
 
-/// The sum, or the difference.
-pub fn add(
-    alloc: Global,
-    place: u32,
-    minus: bool,
-    left: &Poly,
-    right: &Poly,
-) -> Result<Poly, ValueStop>
-    ensures { IsValue (added place minus left.now right.now) result }
+fn add(alloc: Global, place: u32, left: &Poly, right: &Poly) -> Result<Poly, ValueStop>
+    ensures { IsValue (added place left.now right.now) result }
 {
-    if minus {
-        placed(place, left.sub(alloc, right))
-    } else {
-        placed(place, left.add(alloc, right))
-    }
+    placed(place, left.add(alloc, right))
+}
+
+pub fn subtract(alloc: Global, place: u32, left: &Poly, right: &Poly) -> Result<Poly, ValueStop>
+    ensures { IsValue (subtracted place left.now right.now) result }
+{
+    placed(place, left.sub(alloc, right))
 }
 
 fn multiply(alloc: Global, place: u32, left: &Poly, right: &Poly) -> Result<Poly, ValueStop>
@@ -121,78 +89,70 @@ fn as_name(term: &Term) -> Option<Name>
     }
 }
 
-/// The polynomial of a term, or the first limit that an operation meets.
-#[cycle(value)]
-pub fn value(
-    alloc: Global,
-    context: &Context,
-    enclosing: &[Binder],
-    term: &Term,
-) -> Result<Poly, ValueStop>
-    ensures { IsValue (value_of (variable_of context.now.text.now context.now.free.now enclosing.now) (term_of term.now)) result }
-{
-    match term {
-        Term::Number(number) => Ok(Poly::constant(alloc, literal(*number))?),
-        Term::Name(name) => Ok(Poly::power(alloc, context.variable(enclosing, *name), 1)?),
-        Term::Negative(inner) => Ok(value(alloc, context, enclosing, inner)?.neg(alloc)?),
-        Term::Power(base, place, exponent) => match as_name(base) {
-            Some(name) => Ok(Poly::power(
-                alloc,
-                context.variable(enclosing, name),
-                *exponent as u32,
-            )?),
-            None => raise(
-                alloc,
-                *place,
-                &value(alloc, context, enclosing, base)?,
-                *exponent,
-            ),
-        },
-        Term::Sum(first, addends) => {
-            let first = value(alloc, context, enclosing, first)?;
-            sum(alloc, context, enclosing, first, addends.items())
-        }
-        Term::Product(first, factors) => {
-            let first = value(alloc, context, enclosing, first)?;
-            product(alloc, context, enclosing, first, factors.items())
+impl Context<'_, '_> {
+    /// The polynomial of a term, or the first limit that an operation meets.
+    #[cycle(value)]
+    pub fn value(&self, enclosing: &[Binder], term: &Term) -> Result<Poly, ValueStop>
+        ensures { let var = variable_of self.now.text.now self.now.free.now enclosing.now in
+            IsValue (value_of var (term_of term.now)) result }
+    {
+        match term {
+            Term::Number(number) => Ok(Poly::constant(self.alloc, literal(*number))?),
+            Term::Name(name) => Ok(Poly::power(self.alloc, self.variable(enclosing, *name), 1)?),
+            Term::Negative(inner) => Ok(self.value(enclosing, inner)?.neg(self.alloc)?),
+            Term::Power(base, place, exponent) => match as_name(base) {
+                Some(name) => Ok(Poly::power(
+                    self.alloc,
+                    self.variable(enclosing, name),
+                    *exponent as u32,
+                )?),
+                None => raise(self.alloc, *place, &self.value(enclosing, base)?, *exponent),
+            },
+            Term::Sum(first, addends) => {
+                let first = self.value(enclosing, first)?;
+                self.sum(enclosing, first, addends.items())
+            }
+            Term::Product(first, factors) => {
+                let first = self.value(enclosing, first)?;
+                self.product(enclosing, first, factors.items())
+            }
         }
     }
-}
 
-/// With the later summands, from left to right.
-#[cycle(value)]
-fn sum(
-    alloc: Global,
-    context: &Context,
-    enclosing: &[Binder],
-    first: Poly,
-    addends: &[Addend],
-) -> Result<Poly, ValueStop>
-    ensures { IsValue (summed (variable_of context.now.text.now context.now.free.now enclosing.now) (addends_of (map addend_of addends.now)) first) result }
-{
-    let mut sum = first;
-    for addend in addends {
-        let term = value(alloc, context, enclosing, &addend.term)?;
-        sum = add(alloc, addend.place, addend.minus, &sum, &term)?;
+    /// With the later summands, from left to right.
+    #[cycle(value)]
+    fn sum(&self, enclosing: &[Binder], first: Poly, addends: &[Addend]) -> Result<Poly, ValueStop>
+        ensures { let var = variable_of self.now.text.now self.now.free.now enclosing.now in
+            IsValue (summed var (addends_of (map addend_of addends.now)) first) result }
+    {
+        let mut sum = first;
+        for addend in addends {
+            let term = self.value(enclosing, &addend.term)?;
+            sum = if addend.minus {
+                subtract(self.alloc, addend.place, &sum, &term)?
+            } else {
+                add(self.alloc, addend.place, &sum, &term)?
+            };
+        }
+        Ok(sum)
     }
-    Ok(sum)
-}
 
-/// With the later factors, from left to right.
-#[cycle(value)]
-fn product(
-    alloc: Global,
-    context: &Context,
-    enclosing: &[Binder],
-    first: Poly,
-    factors: &[Factor],
-) -> Result<Poly, ValueStop>
-    ensures { IsValue (factored (variable_of context.now.text.now context.now.free.now enclosing.now) (factors_of (map factor_of factors.now)) first) result }
-{
-    let mut product = first;
-    for factor in factors {
-        let term = value(alloc, context, enclosing, &factor.term)?;
-        product = multiply(alloc, factor.place, &product, &term)?;
+    /// With the later factors, from left to right.
+    #[cycle(value)]
+    fn product(
+        &self,
+        enclosing: &[Binder],
+        first: Poly,
+        factors: &[Factor],
+    ) -> Result<Poly, ValueStop>
+        ensures { let var = variable_of self.now.text.now self.now.free.now enclosing.now in
+            IsValue (factored var (factors_of (map factor_of factors.now)) first) result }
+    {
+        let mut product = first;
+        for factor in factors {
+            let term = self.value(enclosing, &factor.term)?;
+            product = multiply(self.alloc, factor.place, &product, &term)?;
+        }
+        Ok(product)
     }
-    Ok(product)
 }

@@ -7,7 +7,7 @@ use Rattle.qe_form.specs.Formula.{Formula, Formulas}
 use Rattle.qe_form.specs.Measures.{count, count_each}
 use Rattle.qe_read.specs.declared.scope.Binder.{Binder}
 use Rattle.qe_read.specs.Names.{Letters, variable}
-use Rattle.qe_read.specs.Value.{value, added}
+use Rattle.qe_read.specs.Value.{value, subtracted}
 use Rattle.qe_read.specs.Formula.{bound_names, binder, formula, formulas}
 use Rattle.qe_read.proofs.Numbers.{Gives, gives_next, gives_equal}
 use Rattle.qe_roundtrip.proofs.Shape.{begun_in, begun_each}
@@ -26,7 +26,7 @@ module _ (text : List ℕ) (free : List Letters) where
     counts enclosing bound (tree.Atom t p r u) =
         gives_equal (Counts (tree.Atom t p r u)) (value (variable text free enclosing) t) _ (λ a ea.
         gives_equal (Counts (tree.Atom t p r u)) (value (variable text free enclosing) u) _ (λ b eb.
-        gives_equal (Counts (tree.Atom t p r u)) (added p true a b) _ (λ d ed. refl)))
+        gives_equal (Counts (tree.Atom t p r u)) (subtracted p a b) _ (λ d ed. refl)))
     counts enclosing bound (tree.And fs) = gives_next (CountsEach fs) (Counts (tree.And fs)) (formulas text free enclosing bound fs) _ (counts_each enclosing bound fs) (λ gs k. k)
     counts enclosing bound (tree.Or fs) = gives_next (CountsEach fs) (Counts (tree.Or fs)) (formulas text free enclosing bound fs) _ (counts_each enclosing bound fs) (λ gs k. k)
     counts enclosing bound (tree.Not f) = gives_next (Counts f) (Counts (tree.Not f)) (formula text free enclosing bound f) _ (counts enclosing bound f) (λ g k. k)

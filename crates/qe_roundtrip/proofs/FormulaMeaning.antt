@@ -20,7 +20,7 @@ use Rattle.qe_read.specs.declared.scope.Binder.{Binder}
 use Rattle.qe_read.specs.Names.{Letters, letters, or_free, variable}
 use Rattle.qe_read.specs.FreeNames.{free_in, free_names, free_names_each}
 use Rattle.qe_read.specs.Numbered.{binders, binders_each}
-use Rattle.qe_read.specs.Value.{proceed, at, added}
+use Rattle.qe_read.specs.Value.{proceed, at, subtracted}
 use Rattle.qe_read.specs.Formula.{relation_signs, bound_names, names_bound_in, binder, pair_value, formula, formulas}
 use Rattle.qe_read.proofs.Variables.{Have}
 use Rattle.qe_read.proofs.Numbers.{names_of, names_of-push}
@@ -125,7 +125,7 @@ module _ (names free : List Letters) (whole : List ℕ) where
           ∙ (λ i. or_free free (letters_here whole place (name_of names x) s i) (found (scoped i) (letters_here whole place (name_of names x) s i)))
           ∙ ap (λ (k : ℕ). record { 0 = k }) h.is
 
-      no_right : (p : ℕ) (d : Polynomial) → IsStored d → added p true d [] ≡ Ok d
+      no_right : (p : ℕ) (d : Polynomial) → IsStored d → subtracted p d [] ≡ Ok d
       no_right p d h =
           let r = more_taken d [] (subst (λ q. IsStored q) (sym (append-nil d)) h) in
           (λ i. at p (r.0 i) (r.1 i)) ∙ ap Ok (append-nil d)
@@ -137,7 +137,7 @@ module _ (names free : List Letters) (whole : List ℕ) where
           let after = place + length (polynomial_text names p) + 1 in
           let left = term_tree (poly_at names place p) in
           record {
-            is = ap (λ v. proceed v (λ a. proceed (added after true a []) (λ d. Ok (Atom (record { poly = d; signs = relation_signs (relation_of (bits (relation_signs r))) })))))
+            is = ap (λ v. proceed v (λ a. proceed (subtracted after a []) (λ d. Ok (Atom (record { poly = d; signs = relation_signs (relation_of (bits (relation_signs r))) })))))
                 (poly_value names whole (variable whole free bs) (IsKnown names free scope) finds place p h k here)
                 ∙ ap (λ v. proceed v (λ d. Ok (Atom (record { poly = d; signs = relation_signs (relation_of (bits (relation_signs r))) })))) (no_right after p h)
                 ∙ ap (λ (z : Signs). Ok (Atom (record { poly = p; signs = z }))) (relation_back r);

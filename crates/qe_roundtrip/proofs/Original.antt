@@ -20,7 +20,7 @@ use Rattle.qe_read.specs.declared.scope.Binder.{Binder}
 use Rattle.qe_read.specs.Names.{Letters, letters, letters_cmp, is_same, names_before, bound_to, or_free, variable}
 use Rattle.qe_read.specs.FreeNames.{is_bound, free_in, free_names, free_names_each}
 use Rattle.qe_read.specs.Numbered.{binders, binders_each}
-use Rattle.qe_read.specs.Value.{value, added}
+use Rattle.qe_read.specs.Value.{value, subtracted}
 use Rattle.qe_read.specs.Formula.{bound_names, names_bound_in, binder, atom_value, formula, formulas}
 use Rattle.qe_read.proofs.Named.{all_in, all_names, all_names_each}
 use Rattle.qe_read.proofs.Kept.{front, behind}
@@ -159,7 +159,7 @@ module _ (names free : List Letters) (text : List ℕ) (sorted : IsStrictlySorte
       let more = map (letters text) (bound ++ ([] ++ later)) in
       gives_equal (Legibly bs bound (tree.Atom t p r u)) (value (variable text free bs) t) _ (λ a ea.
       gives_equal (Legibly bs bound (tree.Atom t p r u)) (value (variable text free bs) u) _ (λ b eb.
-      gives_equal (Legibly bs bound (tree.Atom t p r u)) (added p true a b) _ (λ d ed. (
+      gives_equal (Legibly bs bound (tree.Atom t p r u)) (subtracted p a b) _ (λ d ed. (
         record {
           relation = r;
           signs = refl;

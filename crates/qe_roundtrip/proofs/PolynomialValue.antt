@@ -25,7 +25,7 @@ use Rattle.qe_print.specs.Polynomial.{name_of, power_text, factors_text, term_te
 use Rattle.qe_syntax.specs.Tree.{TermTree, Addends, no_addend, addend, Factors, no_factor, factor}
 use Rattle.qe_syntax.specs.Grammar as grammar
 use Rattle.qe_syntax.specs.Grammar.{term_tree, sums_tree, product_tree, times_tree, signed_tree, power_tree}
-use Rattle.qe_read.specs.Value.{Value, proceed, at, added, multiplied, value, summed, factored}
+use Rattle.qe_read.specs.Value.{Value, proceed, at, signed_sum, multiplied, value, summed, factored}
 use Rattle.qe_read.proofs.Variables.{Have, Has}
 use Rattle.qe_roundtrip.proofs.Derived.{name_at, power_by, power_at, times_at, lead_by, tail_by, lead_at, tail_at, minus_if, joint, front, sums_at, poly_at}
 use Rattle.qe_roundtrip.proofs.Legible.{IsStored}
@@ -86,7 +86,7 @@ taken_back c h = omega (arith, ints)
 kept : (c : ℤ) → int_lt c (pos 0) ≡ false → pos (unsigned_abs c) ≡ c
 kept c h = omega (arith, ints)
 
-added_one : (p : ℕ) (b : Bool) (q : Polynomial) (m : Monomial) (c : ℤ) → int_lt c (pos 0) ≡ b → IsStored (q ++ (m, c) ∷ []) → added p b q ((m, pos (unsigned_abs c)) ∷ []) ≡ Ok (q ++ (m, c) ∷ [])
+added_one : (p : ℕ) (b : Bool) (q : Polynomial) (m : Monomial) (c : ℤ) → int_lt c (pos 0) ≡ b → IsStored (q ++ (m, c) ∷ []) → signed_sum p b q ((m, pos (unsigned_abs c)) ∷ []) ≡ Ok (q ++ (m, c) ∷ [])
 added_one p true q m c h s =
     let right : Polynomial = (m, pos (unsigned_abs c)) ∷ [] in
     let e : negative right ≡ (m, c) ∷ [] = ap (λ z. (m, z) ∷ []) (taken_back c h) in
@@ -255,7 +255,7 @@ module _ (names : List (List ℕ)) (whole : List ℕ) (var : Name → Var) (Q : 
       let here = at_front whole place (joint b ++ term_text names n t.0) (terms_text names ts) s in
       let fits : n ≤ 2 ^ 127 - 1 = omega (arith, one.in_range.0) in
       let rest = summed var (sums_tree (sums_at names (place + length (joint b ++ term_text names n t.0)) ts)) in
-      ap (λ v. proceed v (λ r. proceed (added (place + 1) b p r) rest)) (term_value 0 (place + length (joint b)) n false t.0 one.polynomial.1 one.low.0 (some_magnitude t.1 one.polynomial.0) fits q.0 (at_behind whole place (joint b) (term_text names n t.0) here))
+      ap (λ v. proceed v (λ r. proceed (signed_sum (place + 1) b p r) rest)) (term_value 0 (place + length (joint b)) n false t.0 one.polynomial.1 one.low.0 (some_magnitude t.1 one.polynomial.0) fits q.0 (at_behind whole place (joint b) (term_text names n t.0) here))
       ∙ ap (λ v. proceed v rest) (added_one (place + 1) b p t.0 t.1 refl (stored_front (p ++ t ∷ []) ts stored))
       ∙ sums_value (place + length (joint b ++ term_text names n t.0)) ts (p ++ t ∷ []) stored q.1 (at_behind whole place (joint b ++ term_text names n t.0) (terms_text names ts) s)
       ∙ ap Ok (sym grown)

@@ -7,7 +7,7 @@ use Rattle.qe_poly.specs.declared.monomial.Var.{Var}
 use Rattle.qe_poly.specs.Limits.{sum_limit, product_limit}
 use Rattle.qe_poly.specs.Polynomial.{Polynomial, constant, power_of, negative, sum, difference, product}
 use Rattle.qe_syntax.specs.Tree.{TermTree, Number, Variable, Negative, Power, Sum, Product, Addends, no_addend, addend, Factors, no_factor, factor}
-use Rattle.qe_read.specs.Value.{Value, proceed, at, added, multiplied, repeated, raised, power_value, as_name, literal, value, summed, factored}
+use Rattle.qe_read.specs.Value.{Value, proceed, at, signed_sum, multiplied, repeated, raised, power_value, as_name, literal, value, summed, factored}
 use Rattle.qe_read.proofs.Valued.{next_ok}
 use Rattle.qe_roundtrip.proofs.Legible.{IsStored}
 use Rattle.qe_roundtrip.proofs.Stored.{stored_constant, stored_power, stored_negative, stored_sum, stored_difference, stored_product}
@@ -21,7 +21,7 @@ at_ok : (p : ℕ) (limit : Option PolyLimit) (exact q : Polynomial) → (limit �
 at_ok p None exact q h e = ok exact q (h refl) e
 at_ok p (Some limit) exact q h e = absurd (cc)
 
-pub of_added : (p : ℕ) (minus : Bool) (a b q : Polynomial) → IsStored a → IsStored b → added p minus a b ≡ Ok q → IsStored q
+pub of_added : (p : ℕ) (minus : Bool) (a b q : Polynomial) → IsStored a → IsStored b → signed_sum p minus a b ≡ Ok q → IsStored q
 of_added p true a b q h k e = at_ok p (sum_limit Sub a b) (difference a b) q (stored_difference a b h k) e
 of_added p false a b q h k e = at_ok p (sum_limit Add a b) (sum a b) q (stored_sum a b h k) e
 
@@ -56,8 +56,8 @@ module _ (var : Name → Var) where
     stored_summed : (us : Addends) (a q : Polynomial) → IsStored a → AreLowAddends us → summed var us a ≡ Ok q → IsStored q
     stored_summed no_addend a q k h e = ok a q k e
     stored_summed (addend p minus t us) a q k h e =
-        let r = next_ok (value var t) (λ b. proceed (added p minus a b) (summed var us)) q e in
-        let s = next_ok (added p minus a r.0) (summed var us) q r.2 in
+        let r = next_ok (value var t) (λ b. proceed (signed_sum p minus a b) (summed var us)) q e in
+        let s = next_ok (signed_sum p minus a r.0) (summed var us) q r.2 in
         stored_summed us s.0 q (of_added p minus a r.0 s.0 k (stored_value t r.0 h.0 r.1) s.1) h.1 s.2
 
     stored_factored : (us : Factors) (a q : Polynomial) → IsStored a → AreLowFactors us → factored var us a ≡ Ok q → IsStored q

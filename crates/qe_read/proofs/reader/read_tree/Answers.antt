@@ -9,13 +9,13 @@ use Rattle.qe_read.proofs.Spelled.{letters_utf8, found_all, bound_all}
 use Rattle.qe_read.proofs.reader.read_tree.Goals as goal
 use Rattle.qe_read.proofs.reader.read_tree.Goals.{After-deref-2}
 
-pub read_formula-requires : goal.read_formula-requires
-read_formula-requires c =
+pub formula-requires : goal.formula-requires
+formula-requires c =
     let found = found_all c.args.bytes.now (tree_of c.args.formula.now) _ _ _ _ c.deref.ensures.value c.in_ok-push_free.ensures.names c.new-occurrences.ensures.items c.new.ensures.items in
-    omega (arith, ap length found, ap length c.new-bound.ensures.items, c.in_ok-free.ensures.few, c.requires.few)
+    omega (arith, ap length found, ap length c.new-scope.ensures.bound, c.in_ok-free.ensures.few, c.requires.few)
 
 bound : (c : After-deref-2) → c.deref-2.result.now ≡ bound_names (tree_of c.args.formula.now)
-bound c = bound_all (tree_of c.args.formula.now) _ _ _ c.deref-2.ensures.value c.in_ok-form.ensures.bound c.new-bound.ensures.items
+bound c = bound_all (tree_of c.args.formula.now) _ _ _ c.deref-2.ensures.value c.in_ok-form.ensures.bound c.new-scope.ensures.bound
 
 found : (c : After-deref-2) → c.deref.result.now ≡ free_names c.args.bytes.now [] (tree_of c.args.formula.now)
 found c = found_all c.args.bytes.now (tree_of c.args.formula.now) _ _ _ _ c.deref.ensures.value c.in_ok-push_free.ensures.names c.new-occurrences.ensures.items c.new.ensures.items
