@@ -244,7 +244,7 @@ fn substitutes_minus_infinity(rt: HostRuntime) {
     for (coefficients, bits, want) in BELOW {
         assert!(rt;
             is_text(
-                poly_text(rt.alloc(), *coefficients, *bits, &Point::MinusInf),
+                poly_text(rt.alloc(), *coefficients, *bits, &Point::MinusInf, None),
                 want
             )
         );
