@@ -1,8 +1,13 @@
 -- The text of a polynomial, where a list of names gives each variable its name, at its number.
-use Rattle.std.specs.Prelude.{ℕ, pos, List, [], ◌∷◌, ◌++◌, ◌==◌, if◌then◌else◌, int_lt, unsigned_abs, codes, decimal, slice_get, unwrap_or}
+use Rattle.std.specs.Prelude.{ℕ, pos, List, [], ◌∷◌, ◌++◌, ◌==◌, ◌≡◌, if◌then◌else◌, int_lt, unsigned_abs, codes, decimal, slice_get, unwrap_or, Result, OnOk, String}
+use Rattle.std.specs.String.{string_bytes}
 use Rattle.qe_poly.specs.declared.monomial.Power.{Power}
 use Rattle.qe_poly.specs.Monomial.{Monomial}
 use Rattle.qe_poly.specs.Polynomial.{Polynomial}
+
+-- where memory suffices, the text is put behind the old one
+abbrev pub Appends : {A E Z : Type 0} → Result A E → String Z → String Z → List ℕ → Type 0
+Appends result old new text = OnOk result (string_bytes new ≡ string_bytes old ++ text)
 
 -- the name of a variable, and no text where it has none
 abbrev pub name_of : List (List ℕ) → ℕ → List ℕ

@@ -1,11 +1,10 @@
 //! The text of a formula.
 
-ghost use Rattle.std.specs.Prelude.{◌≡◌, ◌++◌, OnOk, IfOk, true, codes};
-ghost use Rattle.qe_print.specs.Polynomial.{name_of};
-ghost use Rattle.std.specs.String.{string_bytes};
+ghost use Rattle.std.specs.Prelude.{◌≡◌, ◌++◌, IfOk, true, codes};
 ghost use Rattle.qe_form.specs.Signs.{bits};
 ghost use Rattle.qe_form.specs.Tree.{tree, trees};
-ghost use Rattle.qe_print.specs.Formula.{relation_to_zero, atom_text, is_simple, bracketed, part, is_single, list_text, formula_text, parts_text};
+ghost use Rattle.qe_print.specs.Polynomial.{Appends, name_of};
+ghost use Rattle.qe_print.specs.Formula.{relation_to_zero, atom_text, is_simple, part, is_single, list_text, formula_text, parts_text};
 
 use crate::OutOfMemory;
 use crate::polynomial::{name_of, push_poly};
@@ -28,7 +27,7 @@ fn relation_of(signs: Signs) -> &'static str
 
 /// Appends an atom: its polynomial and the relation to 0.
 fn push_atom(out: &mut String, atom: &Atom, names: &Names) -> Result<(), OutOfMemory>
-    ensures { OnOk result (string_bytes out.new ≡ string_bytes out.old ++ atom_text names.now atom.now) }
+    ensures { Appends result out.old out.new (atom_text names.now atom.now) }
 {
     match atom.signs.bits() {
         0 => out.push_str("false"),
@@ -53,7 +52,8 @@ fn is_simple(form: &Form) -> bool
 /// Appends a part: in brackets where it does not stand alone and is neither a constant nor an atom.
 #[cycle(print)]
 fn push_part(out: &mut String, form: &Form, names: &Names, alone: bool) -> Result<(), OutOfMemory>
-    ensures { OnOk result (string_bytes out.new ≡ string_bytes out.old ++ part alone (tree form.now) (formula_text names.now (tree form.now))) }
+    ensures { let text = formula_text names.now (tree form.now) in
+        Appends result out.old out.new (part alone (tree form.now) text) }
 {
     if alone || is_simple(form) {
         return push_form(out, form, names);
@@ -72,7 +72,9 @@ fn push_parts(
     joint: &str,
     none: &str,
 ) -> Result<(), OutOfMemory>
-    ensures { OnOk result (string_bytes out.new ≡ string_bytes out.old ++ list_text none.now (trees forms.now) (parts_text names.now joint.now true (is_single (trees forms.now)) (trees forms.now))) }
+    ensures { let parts = trees forms.now in
+        let text = parts_text names.now joint.now true (is_single parts) parts in
+        Appends result out.old out.new (list_text none.now parts text) }
 {
     let items = forms.items();
     if items.is_empty() {
@@ -91,7 +93,7 @@ fn push_parts(
 /// Appends the text of a formula.
 #[cycle(print)]
 fn push_form(out: &mut String, form: &Form, names: &Names) -> Result<(), OutOfMemory>
-    ensures { OnOk result (string_bytes out.new ≡ string_bytes out.old ++ formula_text names.now (tree form.now)) }
+    ensures { Appends result out.old out.new (formula_text names.now (tree form.now)) }
 {
     match form {
         Form::True => out.push_str("true"),
@@ -126,14 +128,14 @@ fn push_form(out: &mut String, form: &Form, names: &Names) -> Result<(), OutOfMe
 
 /// Appends a quantifier's word, its variable's name, and `. `.
 fn push_binder(out: &mut String, word: &str, var: Var, names: &Names) -> Result<(), OutOfMemory>
-    ensures { OnOk result (string_bytes out.new ≡ string_bytes out.old ++ word.now ++ name_of names.now var.0 ++ codes ". ") }
+    ensures { Appends result out.old out.new (word.now ++ name_of names.now var.0 ++ codes ". ") }
 {
     out.push_str(word)?;
     out.push_str(name_of(names, var))?;
     out.push_str(". ")
 }
 
-/// The text of a formula, with names as they stand. `Err` for want of memory alone.
+/// The text of a formula, with names as they stand. `Err` only where memory runs out.
 pub fn form_text(alloc: Global, form: &Form, names: &Names) -> Result<Vec<u8>, OutOfMemory>
     ensures { IfOk result (λ text. text.items ≡ formula_text names.now (tree form.now)) }
 {

@@ -20,7 +20,7 @@ fn bearers(names: &Names, name: &str) -> usize
 }
 
 /// The name of a variable as it stands, but where another of `names` is the same: the name, `#` and the variable's
-/// number, as in `x#2`. A variable without a name has no text. `Err` for want of memory alone.
+/// number, as in `x#2`. A variable without a name has no text. `Err` only where memory runs out.
 pub fn name_text(alloc: Global, var: Var, names: &Names) -> Result<Vec<u8>, OutOfMemory>
     ensures { IfOk result (λ text. text.items ≡ name_text names.now var.0) }
 {

@@ -1,9 +1,8 @@
 //! The text of a polynomial.
 
-ghost use Rattle.std.specs.Prelude.{◌≡◌, ◌++◌, OnOk, IfOk, map, int_lt, pos, unsigned_abs};
-ghost use Rattle.std.specs.String.{string_bytes};
+ghost use Rattle.std.specs.Prelude.{◌≡◌, IfOk, map, unsigned_abs};
 ghost use Rattle.qe_poly.specs.Rows.{shown};
-ghost use Rattle.qe_print.specs.Polynomial.{name_of, power_text, factors_text, term_text, terms_text, polynomial_text};
+ghost use Rattle.qe_print.specs.Polynomial.{Appends, name_of, power_text, factors_text, term_text, terms_text, polynomial_text};
 
 use crate::OutOfMemory;
 use qe_coef::Coef;
@@ -19,9 +18,9 @@ pub fn name_of(names: &Names, var: Var) -> &str
     names.get(var).unwrap_or("")
 }
 
-/// Appends `x`, or `x^3`.
+/// Appends a power, as `x` or `x^3`.
 fn push_power(out: &mut String, power: Power, names: &Names) -> Result<(), OutOfMemory>
-    ensures { OnOk result (string_bytes out.new ≡ string_bytes out.old ++ power_text names.now power) }
+    ensures { Appends result out.old out.new (power_text names.now power) }
 {
     out.push_str(name_of(names, power.var))?;
     if power.exponent != 1 {
@@ -32,7 +31,7 @@ fn push_power(out: &mut String, power: Power, names: &Names) -> Result<(), OutOf
 
 /// Appends each power with a `*` before it.
 fn push_factors(out: &mut String, powers: &[Power], names: &Names) -> Result<(), OutOfMemory>
-    ensures { OnOk result (string_bytes out.new ≡ string_bytes out.old ++ factors_text names.now powers.now) }
+    ensures { Appends result out.old out.new (factors_text names.now powers.now) }
 {
     for power in powers {
         out.push_str("*")?;
@@ -43,7 +42,8 @@ fn push_factors(out: &mut String, powers: &[Power], names: &Names) -> Result<(),
 
 /// Appends the magnitude of a coefficient and the powers of a monomial.
 fn push_term(out: &mut String, term: &Term, names: &Names) -> Result<(), OutOfMemory>
-    ensures { OnOk result (string_bytes out.new ≡ string_bytes out.old ++ term_text names.now (unsigned_abs term.now.coef) term.now.monomial) }
+    ensures { let magnitude = unsigned_abs term.now.coef in
+        Appends result out.old out.new (term_text names.now magnitude term.now.monomial) }
 {
     let magnitude = term.coef.magnitude().value();
     match term.monomial.powers().split_first() {
@@ -60,29 +60,27 @@ fn push_term(out: &mut String, term: &Term, names: &Names) -> Result<(), OutOfMe
 
 /// Appends each term with ` + ` or ` - ` before it.
 fn push_terms(out: &mut String, terms: &[Term], names: &Names) -> Result<(), OutOfMemory>
-    ensures { OnOk result (string_bytes out.new ≡ string_bytes out.old ++ terms_text names.now (map shown terms.now)) }
+    ensures { Appends result out.old out.new (terms_text names.now (map shown terms.now)) }
 {
     for term in terms {
-        out.push_str(if is_negative(term) { " - " } else { " + " })?;
+        out.push_str(if term.coef.is_negative() {
+            " - "
+        } else {
+            " + "
+        })?;
         push_term(out, term, names)?;
     }
     Ok(())
 }
 
-fn is_negative(term: &Term) -> bool
-    ensures { result ≡ int_lt term.now.coef (pos 0) }
-{
-    term.coef.value() < 0
-}
-
 /// Appends the text of a polynomial.
 pub fn push_poly(out: &mut String, poly: &Poly, names: &Names) -> Result<(), OutOfMemory>
-    ensures { OnOk result (string_bytes out.new ≡ string_bytes out.old ++ polynomial_text names.now poly.now) }
+    ensures { Appends result out.old out.new (polynomial_text names.now poly.now) }
 {
     match poly.terms().split_first() {
         None => out.push_str("0"),
         Some((first, rest)) => {
-            if is_negative(first) {
+            if first.coef.is_negative() {
                 out.push_str("-")?;
             }
             push_term(out, first, names)?;
@@ -92,7 +90,7 @@ pub fn push_poly(out: &mut String, poly: &Poly, names: &Names) -> Result<(), Out
 }
 
 /// The text of a polynomial, with names as they stand: its terms from the greatest monomial to the least, as in
-/// `4*a*c - b^2`, and `0` for the zero polynomial. `Err` for want of memory alone.
+/// `4*a*c - b^2`, and `0` for the zero polynomial. `Err` only where memory runs out.
 pub fn poly_text(alloc: Global, poly: &Poly, names: &Names) -> Result<Vec<u8>, OutOfMemory>
     ensures { IfOk result (λ text. text.items ≡ polynomial_text names.now poly.now) }
 {

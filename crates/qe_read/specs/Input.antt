@@ -65,7 +65,7 @@ abbrev pub Answers : List ℕ → Result Input ReadFault → Type 0
 Answers bytes (Ok input) = IsInput bytes (tree input.form) input.names
 Answers bytes (Err fault) = IsFirstFaultOf bytes fault
 
--- the formula and the names are read, unless memory is wanted
+-- the formula and the names are read, unless memory runs out
 abbrev pub IsReadAs : Formula → List Letters → Result Input ReadFault → Type 0
 IsReadAs f names (Ok input) = (tree input.form ≡ f) × (input.names ≡ names)
 IsReadAs f names (Err read.OutOfMemory) = Unit {0}

@@ -1,5 +1,5 @@
 -- A formula has as many atoms, constants and quantifiers as begin in the text that stands for it.
-use Rattle.std.proofs.Common.{ℕ, ◌+◌, ◌≡◌, refl, ap, true, List, [], ◌∷◌, ◌++◌}
+use Rattle.std.proofs.Common.{ℕ, ◌+◌, ◌≡◌, refl, ap, List, [], ◌∷◌, ◌++◌}
 use Rattle.qe_token.specs.declared.token.Name.{Name}
 use Rattle.qe_syntax.specs.Tree as tree
 use Rattle.qe_syntax.specs.Tree.{FormulaTree, FormulaTrees}

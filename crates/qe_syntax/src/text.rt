@@ -51,7 +51,7 @@ fn parse_first(alloc: Global, tokens: &[Located], end: u32) -> Result<Formula, P
 /// # Errors
 ///
 /// `Fault` with the first fault and the offset of its token, where the end of the text counts as a token.
-/// `OutOfMemory` for want of memory alone.
+/// `OutOfMemory` only where memory runs out.
 pub fn parse(alloc: Global, tokens: &[Located], end: u32) -> Result<Formula, ParseStop>
     // What is read is a text of the grammar within its limits; a fault is the first one.
     ensures answers { Answers tokens.now end result }

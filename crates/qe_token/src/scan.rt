@@ -196,7 +196,8 @@ fn split(alloc: Global, bytes: &[u8]) -> Result<Vec<Located>, OutOfMemory>
     Ok(tokens)
 }
 
-/// The tokens of a text in order, each as long as possible, with their places. `Err` for want of memory alone.
+/// The tokens of a text in order, each as long as possible, with their places.
+/// `Err` only where memory runs out.
 #[tactic(auto, using(crate::proofs::Tokenized::are_found, crate::proofs::Tokenized::names_within))]
 pub fn tokens(alloc: Global, bytes: &[u8]) -> Result<Vec<Located>, OutOfMemory>
     requires { length bytes.now < 2 ^ 32 }
