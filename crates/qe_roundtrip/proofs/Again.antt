@@ -30,10 +30,12 @@ use Rattle.qe_roundtrip.proofs.FormulaTokens.{formula_opens}
 use Rattle.qe_roundtrip.proofs.Sites.{at_start}
 use Rattle.qe_roundtrip.proofs.Loose.{loose}
 use Rattle.qe_roundtrip.proofs.FormulaMeaning.{Stands, stands}
-use Rattle.qe_roundtrip.proofs.Shape.{begun_in, IsShaped, shaped_formula, count_formula}
+use Rattle.qe_syntax.proofs.Shape.{IsShaped, shaped_text}
+use Rattle.qe_roundtrip.proofs.Begun.{begun_in, count_formula}
 use Rattle.qe_roundtrip.proofs.Counts.{counts}
 use Rattle.qe_roundtrip.proofs.Original.{name_front, name_next, legible}
-use Rattle.qe_roundtrip.proofs.Clean.{clean_text, clean_fits, clean_most, clean_from}
+use Rattle.qe_syntax.proofs.Clean.{clean_text}
+use Rattle.qe_roundtrip.proofs.Clean.{clean_most, clean_from}
 use Rattle.qe_roundtrip.proofs.FreeAgain.{held, holds_contained, contained_holds, printed}
 use Rattle.qe_roundtrip.proofs.FreeAgain as again
 
@@ -58,7 +60,7 @@ module _ (bytes : List ℕ) (f : Formula) (names : List Letters) (i : IsInput by
   clean = clean_text i.text.tokens i.of i.text.text
 
   shaped : IsShaped i.of
-  shaped = subst (λ t. IsShaped t) i.text.text.stands_for (shaped_formula 0 i.text.text.derived (the_end ∷ []) (clean_fits 0 (input i.text.text.derived) clean)).0
+  shaped = shaped_text i.text.tokens i.of i.text.text
 
   words : AllByRecursion (λ x. IsName (letters bytes x)) (all_names i.of)
   words =

@@ -10,7 +10,7 @@ use Rattle.qe_read.specs.Names.{Letters, variable}
 use Rattle.qe_read.specs.Value.{value, subtracted}
 use Rattle.qe_read.specs.Formula.{bound_names, binder, formula, formulas}
 use Rattle.qe_read.proofs.Numbers.{Gives, gives_next, gives_equal}
-use Rattle.qe_roundtrip.proofs.Shape.{begun_in, begun_each}
+use Rattle.qe_roundtrip.proofs.Begun.{begun_in, begun_each}
 
 module _ (text : List ℕ) (free : List Letters) where
   abbrev Counts : FormulaTree → Formula → Type 0

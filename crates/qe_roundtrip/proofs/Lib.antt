@@ -10,7 +10,7 @@ mod PolynomialValue
 mod PolynomialNames
 mod Loose
 mod FormulaMeaning
-mod Shape
+mod Begun
 mod StoredValue
 mod Counts
 mod Original

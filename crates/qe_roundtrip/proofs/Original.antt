@@ -31,7 +31,7 @@ use Rattle.qe_read.proofs.Numbers.{Gives, gives_next, gives_equal, names_of, nam
 use Rattle.qe_roundtrip.proofs.Numerals.{IsName}
 use Rattle.qe_roundtrip.proofs.Legible.{Scope, found, IsKnown, IsLegible, AreLegible}
 use Rattle.qe_roundtrip.proofs.Loose.{scope_of, variable_in, found_in, scope_of-push}
-use Rattle.qe_roundtrip.proofs.Shape.{tree_size, IsShaped, AreShaped, IsLowTerm}
+use Rattle.qe_syntax.proofs.Shape.{tree_size, IsShaped, AreShaped, IsLowTerm}
 use Rattle.qe_roundtrip.proofs.StoredValue.{of_added, stored_value}
 
 -- ---- names by their numbers

@@ -9,15 +9,7 @@ use Rattle.qe_token.specs.declared.token.Located.{Located}
 use Rattle.qe_token.specs.Bytes.{is_blank, is_digit, is_letter, is_name_byte, begins}
 use Rattle.qe_token.specs.Tokens.{AreBlanks, AreTokens, Spells, extends, makes_relation, goes_on}
 use Rattle.qe_syntax.specs.Grammar.{Occurrence, tokens_of, with_end}
-use Rattle.qe_syntax.specs.Faults.{is_wide, is_high_exponent}
-
--- the number at a mark, if there is one, is not too great
-abbrev pub Fits : Occurrence → Type 0
-Fits m = (is_wide m.token m.role ≡ false) × (is_high_exponent m.token m.role ≡ false)
-
-abbrev pub AllFit : List Occurrence → Type 0
-AllFit [] = Unit {0}
-AllFit (m ∷ ms) = Fits m × AllFit ms
+use Rattle.qe_syntax.proofs.Clean.{Fits, AllFit}
 
 -- From this place on, the bytes are the tokens of these marks, and no number among them is too great.
 pub record Reads (place : ℕ) (bytes : List ℕ) (ms : List Occurrence) : Type 0 where

@@ -12,7 +12,8 @@ use Rattle.qe_poly.specs.Polynomial.{Term, Polynomial}
 use Rattle.qe_print.specs.Polynomial.{name_of, power_text, factors_text, term_text, terms_text, polynomial_text}
 use Rattle.qe_syntax.specs.Grammar as grammar
 use Rattle.qe_syntax.specs.Grammar.{Occurrence, plain, opener, figure, literal, exponent, plus_or_minus}
-use Rattle.qe_roundtrip.proofs.Pieces.{Fits, Parts, Open, Closed, opened, nothing, closed_open, open_open, blank_token}
+use Rattle.qe_syntax.proofs.Clean.{Fits}
+use Rattle.qe_roundtrip.proofs.Pieces.{Parts, Open, Closed, opened, nothing, closed_open, open_open, blank_token}
 use Rattle.qe_roundtrip.proofs.Numerals.{IsName, literal_opens, zero_opens, exponent_opens, name_opens}
 use Rattle.qe_roundtrip.proofs.Derived.{power_by, power_at, times_at, lead_by, tail_by, lead_at, tail_at, minus_if, joint, front, sums_at, poly_at}
 

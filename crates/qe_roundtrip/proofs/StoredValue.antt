@@ -11,7 +11,7 @@ use Rattle.qe_read.specs.Value.{Value, proceed, at, signed_sum, multiplied, repe
 use Rattle.qe_read.proofs.Valued.{next_ok}
 use Rattle.qe_roundtrip.proofs.Legible.{IsStored}
 use Rattle.qe_roundtrip.proofs.Stored.{stored_constant, stored_power, stored_negative, stored_sum, stored_difference, stored_product}
-use Rattle.qe_roundtrip.proofs.Shape.{IsLowTerm, AreLowAddends, AreLowFactors}
+use Rattle.qe_syntax.proofs.Shape.{IsLowTerm, AreLowAddends, AreLowFactors}
 
 ok : (p q : Polynomial) → IsStored p → ◌≡◌ {A = Value} (Ok p) (Ok q) → IsStored q
 ok p q h e = let f : p ≡ q = cc in subst (λ r. IsStored r) f h

@@ -65,10 +65,10 @@ whole s = formula-append 0 s [] (the_end ∷ [])
 regroup : (before more : List Occurrence) → (before ++ more) ++ the_end ∷ [] ≡ before ++ (more ++ the_end ∷ [])
 regroup before more = append_assoc before more (the_end ∷ [])
 
-abbrev pub HasMark : List Tok → Tok → TextFault → Type 0
-HasMark before t f = (s : Formula) × (ms : List Occurrence) × (n : Occurrence) × (rest : List Occurrence) × (input s ≡ ms ++ n ∷ rest) × (tokens_of ms ≡ before) × (n.token ≡ t) × (passed_limit (counted 0 ms) n ≡ Some f)
+abbrev pub HasLimit : List Tok → Tok → TextFault → Type 0
+HasLimit before t f = (s : Formula) × (ms : List Occurrence) × (n : Occurrence) × (rest : List Occurrence) × (input s ≡ ms ++ n ∷ rest) × (tokens_of ms ≡ before) × (n.token ≡ t) × (passed_limit (counted 0 ms) n ≡ Some f)
 
-value_here : (f : TextFault) (s : Formula) (before more : List Occurrence) (m : Occurrence) (t : Tok) → formula 0 s [] ≡ before ++ m ∷ more → m.token ≡ t → passed_limit (counted 0 before) m ≡ Some f → HasMark (tokens_of before) t f
+value_here : (f : TextFault) (s : Formula) (before more : List Occurrence) (m : Occurrence) (t : Tok) → formula 0 s [] ≡ before ++ m ∷ more → m.token ≡ t → passed_limit (counted 0 before) m ≡ Some f → HasLimit (tokens_of before) t f
 value_here f s before more m t is e h = (s, before, m, more ++ the_end ∷ [], whole s ∙ ap (λ (x : List Occurrence). x ++ the_end ∷ []) is ∙ regroup before (m ∷ more), refl, e, h)
 
 here_at : (f : TextFault) (s : Formula) (before more : List Occurrence) (t : Tok) (after : List Tok) → formula 0 s [] ≡ before ++ more → HasFault (formula 0) on_simple f (counted 0 before) before more (t ∷ after) → IsFaultAt (tokens_of before) t f

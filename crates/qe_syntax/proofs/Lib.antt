@@ -9,4 +9,6 @@ pub mod Formulas
 pub mod Atoms
 pub mod First
 pub mod OneFault
+pub mod Clean
+pub mod Shape
 pub mod Small

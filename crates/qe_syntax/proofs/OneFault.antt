@@ -6,7 +6,7 @@ use Rattle.qe_syntax.specs.declared.fault.TextFault.TheVariants.{Syntax, Wide, E
 use Rattle.qe_syntax.specs.Grammar.{Occurrence, input, tokens_of}
 use Rattle.qe_syntax.specs.Faults.{Tok, passed_limit, counted, IsFaultAt, bare_tokens, head, IsFirstFault}
 use Rattle.qe_syntax.proofs.Spelling.{tokens_of-append}
-use Rattle.qe_syntax.proofs.First.{Agree, agree_inputs, HasMark}
+use Rattle.qe_syntax.proofs.First.{Agree, agree_inputs, HasLimit}
 
 agree_both : (ms ms' more more' : List Occurrence) (m m' : Occurrence) → Agree (ms ++ m ∷ more) (ms' ++ m' ∷ more') → tokens_of ms ≡ tokens_of ms' → m.token ≡ m'.token → (ms ≡ ms') × (m ≡ m')
 agree_both [] [] more more' m m' g e h = (refl, (g h).0)
@@ -20,17 +20,17 @@ agree_both (x ∷ ms) (y ∷ ms') more more' m m' g e h =
     let k : ms ≡ ms' = r.0 in
     let l : x ∷ ms ≡ y ∷ ms' = cc in (l, r.1)
 
-one_value : (before : List Tok) (t : Tok) (f g : TextFault) → HasMark before t f → HasMark before t g → f ≡ g
+one_value : (before : List Tok) (t : Tok) (f g : TextFault) → HasLimit before t f → HasLimit before t g → f ≡ g
 one_value before t f g a b =
     let ag : Agree (a.1 ++ a.2 ∷ a.3) (b.1 ++ b.2 ∷ b.3) = subst (λ (x : List Occurrence). Agree x (b.1 ++ b.2 ∷ b.3)) a.4 (subst (λ (x : List Occurrence). Agree (input a.0) x) b.4 (agree_inputs a.0 b.0)) in
     let r = agree_both a.1 b.1 a.3 b.3 a.2 b.2 ag (a.5 ∙ sym b.5) (a.6 ∙ sym b.6) in
     let e : Some f ≡ Some g = sym a.7 ∙ ap (λ (x : List Occurrence). passed_limit (counted 0 x) a.2) r.0 ∙ ap (passed_limit (counted 0 b.1)) r.1 ∙ b.7 in cc
 
-no_syntax : (before : List Tok) (t : Tok) (f : TextFault) → IsFaultAt before t Syntax → HasMark before t f → ⊥
+no_syntax : (before : List Tok) (t : Tok) (f : TextFault) → IsFaultAt before t Syntax → HasLimit before t f → ⊥
 no_syntax before t f s a = s a.0 (tokens_of a.3) (ap tokens_of a.4 ∙ tokens_of-append a.1 (a.2 ∷ a.3) ∙ ap (λ (x : List Tok). x ++ a.2.token ∷ tokens_of a.3) a.5 ∙ ap (λ (x : Tok). before ++ x ∷ tokens_of a.3) a.6)
 
 -- a fault is a syntax fault, or that of a mark
-kind : (before : List Tok) (t : Tok) (f : TextFault) → IsFaultAt before t f → ((f ≡ Syntax) × IsFaultAt before t Syntax) ⊎ HasMark before t f
+kind : (before : List Tok) (t : Tok) (f : TextFault) → IsFaultAt before t f → ((f ≡ Syntax) × IsFaultAt before t Syntax) ⊎ HasLimit before t f
 kind before t Syntax a = inl (refl, a)
 kind before t Wide a = inr a
 kind before t Exponent a = inr a
