@@ -15,3 +15,4 @@ pub mod OrderLaws
 pub mod Laws
 pub mod Holds
 pub mod HoldsLaws
+pub mod Blocks

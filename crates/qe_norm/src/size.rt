@@ -18,15 +18,6 @@ fn count_sum(left: u32, right: u32) -> u32
     MOST_COUNTED.min(left + right)
 }
 
-/// Twice the sum of two counts, which stops at 65,537.
-fn count_twice(left: u32, right: u32) -> u32
-    requires left_stops { left ≤ 65537 }
-    requires right_stops { right ≤ 65537 }
-    ensures { result ≡ min 65537 (2 * (left + right)) }
-{
-    MOST_COUNTED.min(2 * (left + right))
-}
-
 /// How many atoms, constants and quantifiers the normal form of the formula has, as that of its negation; 65,537 where it has more.
 #[cycle(size)]
 pub fn size(form: &Form) -> u32
@@ -37,7 +28,10 @@ pub fn size(form: &Form) -> u32
         Form::And(parts) | Form::Or(parts) => size_all(parts),
         Form::Not(inner) => size(inner),
         Form::Implies(left, right) => count_sum(size(left), size(right)),
-        Form::Iff(left, right) => count_twice(size(left), size(right)),
+        Form::Iff(left, right) => {
+            let once = count_sum(size(left), size(right));
+            count_sum(once, once)
+        }
         Form::Ex(_, body) | Form::All(_, body) => count_sum(1, size(body)),
     }
 }
