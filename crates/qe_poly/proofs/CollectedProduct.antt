@@ -15,7 +15,8 @@ use Rattle.qe_poly.specs.declared.limit.PolyLimit.TheVariants.{Coefficient, Expo
 use Rattle.qe_poly.specs.declared.term.Term as kept
 use Rattle.qe_poly.specs.Monomial.{Monomial, in_turn, times}
 use Rattle.qe_poly.specs.Polynomial.{Term, Polynomial, Group, IsPolynomial, with_first, enter, gathered, total, totals, term_unless_zero, products, product}
-use Rattle.qe_poly.specs.Limits.{first_limit, limit_if, or_else, wide, magnitude_limit, product_limit}
+use Rattle.qe_poly.specs.Limits.{first_limit, limit_if, wide, magnitude_limit, product_limit}
+use Rattle.qe_halt.specs.Outcome.{or_else}
 use Rattle.qe_poly.specs.Rows.{shown}
 use Rattle.qe_poly.specs.Tally.{Tally, empty_tally, tally_more, next_tally, enter_tally, leaves_range}
 use Rattle.qe_poly.specs.Collected.{product_row, has_high, fit, fitted_row, fitted, entered, limit_of, row_wide, pairs_wide, tallied_limit, tallied_terms, collected_limit}
@@ -116,11 +117,11 @@ length-entered p q =
 
 -- ---- where no product of coefficients leaves the range, all fit
 
-if_none : (b : Bool) (met : PolyLimit) (rest : Option PolyLimit) → limit_if b met rest ≡ None → (b ≡ false) × (rest ≡ None)
+pub if_none : (b : Bool) (met : PolyLimit) (rest : Option PolyLimit) → limit_if b met rest ≡ None → (b ≡ false) × (rest ≡ None)
 if_none true met rest none = absurd (cc)
 if_none false met rest none = (refl, none)
 
-else_none : (a b : Option PolyLimit) → or_else a b ≡ None → (a ≡ None) × (b ≡ None)
+pub else_none : (a b : Option PolyLimit) → or_else a b ≡ None → (a ≡ None) × (b ≡ None)
 else_none None b none = (refl, none)
 else_none (Some met) b none = absurd (cc)
 
@@ -164,10 +165,10 @@ over-is sum magnitude (c ∷ cs) =
       | false ↦ over-is next (magnitude + unsigned_abs c) cs
     ]
 
-magnitude_sum : (a b : ℤ) → unsigned_abs (a +ℤ b) ≤ unsigned_abs a + unsigned_abs b
+pub magnitude_sum : (a b : ℤ) → unsigned_abs (a +ℤ b) ≤ unsigned_abs a + unsigned_abs b
 magnitude_sum a b = omega (arith, ints)
 
-at_most : (a b : ℕ) → ltb a b ≡ false → b ≤ a
+pub at_most : (a b : ℕ) → ltb a b ≡ false → b ≤ a
 at_most a b test = omega (arith, ltb-false)
 
 sum-is : (sum : ℤ) (magnitude : ℕ) (cs : List ℤ) → unsigned_abs sum ≤ magnitude → magnitude_limit magnitude cs ≡ None → (tally_on (within sum magnitude) cs).sum ≡ sum +ℤ total cs

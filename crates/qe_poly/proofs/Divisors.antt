@@ -9,19 +9,16 @@ use Rattle.std.proofs.lemmas.Bool.Decides.{nat_tests, Decides-int_eq}
 use Rattle.std.specs.Ordering.{int_eq}
 use Rattle.std.specs.Int.{◌∣◌, IsGcd}
 use Rattle.std.specs.Int.RustNames.{int_div, int_rem}
+use Rattle.qe_ring.proofs.Bools.{no_way, both_hold}
+use Rattle.qe_coef.proofs.Quotient.{abs_positive}
 use Rattle.qe_ring.proofs.Ints.{int_ring}
 use Rattle.qe_coef.specs.Range.{Divides}
 use Rattle.qe_poly.specs.Monomial.{Monomial}
 use Rattle.qe_poly.specs.Polynomial.{Term, Polynomial, IsBelow, IsPolynomial}
 use Rattle.qe_poly.specs.Value.{scaled}
-use Rattle.qe_poly.specs.Primitive.{divides_each, greatest_divisor, content, leads_negative, negated_if, divided, primitive, IsMultiple, DividesEach, IsContent}
+use Rattle.qe_poly.specs.Primitive.{divides_each, greatest_divisor, content, leads_negative, negated_if, divided, primitive, IsMultiple, DividesEach, IsContent, IsOwnPrimitive}
 
 -- ---- quotients
-
-abs_positive : (d : ℤ) → d ≢ pos 0 → 0 < unsigned_abs d
-abs_positive (pos zero) other = absurd (other refl)
-abs_positive (pos (suc n)) other = omega arith
-abs_positive (negsuc n) other = omega arith
 
 abs_zero : (d : ℤ) → unsigned_abs d ≡ 0 → d ≡ pos 0
 abs_zero (pos zero) none = refl
@@ -69,11 +66,7 @@ one_more d g h t ts A gcd before =
 divides_to : (d : ℕ) (p : Polynomial) → divides_each d p ≡ true → DividesEach d p
 divides_to d [] test = tt
 divides_to d (t ∷ ts) test =
-    let parts = both (eqb (unsigned_abs t.1 % d) 0) (divides_each d ts) test in (dvd_of_mod-eq-zero d (eqb-true (unsigned_abs t.1 % d) 0 parts.0), divides_to d ts parts.1)
-  where
-    both : (a b : Bool) → (a && b) ≡ true → (a ≡ true) × (b ≡ true)
-    both true b holds = (refl, holds)
-    both false b holds = absurd (cc)
+    let parts = both_hold (eqb (unsigned_abs t.1 % d) 0) (divides_each d ts) test in (dvd_of_mod-eq-zero d (eqb-true (unsigned_abs t.1 % d) 0 parts.0), divides_to d ts parts.1)
 
 divides_from : (d : ℕ) (p : Polynomial) → DividesEach d p → divides_each d p ≡ true
 divides_from d [] each = refl
@@ -89,11 +82,8 @@ greatest_is (suc n) g p divisors positive most =
     ] refl
   where
     less : divides_each (suc n) p ≡ false → g ≤ n
-    less test = by_cases (λ same. absurd (no_way (sym test ∙ divides_from (suc n) p (subst (λ k. DividesEach k p) same ((divisors g).0 (dvd_refl g))))))
+    less test = by_cases (λ same. no_way (sym test ∙ divides_from (suc n) p (subst (λ k. DividesEach k p) same ((divisors g).0 (dvd_refl g)))))
       where
-        no_way : false ≡ true → ⊥
-        no_way holds = absurd (cc)
-
         by_cases : (g ≡ suc n → g ≤ n) → g ≤ n
         by_cases last = grind (arith, nat_tests)
 
@@ -181,3 +171,20 @@ divided_by_content (t ∷ ts) poly other d g divisors is =
 -- equals in the place of equals
 pub multiple_moved : (p p' q q' : Polynomial) (b b' : Bool) → p ≡ p' → q ≡ q' → b ≡ b' → IsMultiple p q b → IsMultiple p' q' b'
 multiple_moved p p' q q' b b' same same_too alike multiple = (multiple.0, multiple.1, sym same ∙ (multiple.2 ∙ λ i. scaled (negated_if (alike i) multiple.0) (same_too i)))
+
+-- divided by one it stays as it is
+divided_by_one : (p : Polynomial) → IsPolynomial p → DividesEach 1 p → divided (pos 1) p ≡ p
+divided_by_one [] poly each = refl
+divided_by_one (t ∷ ts) poly each = λ i. (t.0, sym (quotient t.1 (pos 1) each.0 ∙ int_ring.mul-one (int_div t.1 (pos 1))) i) ∷ divided_by_one ts poly.3 each.1 i
+
+-- what a test tells that finds no negative leading coefficient and the content one
+pub primitive_itself : (p : Polynomial) → IsPolynomial p → (g : ℤ) → IsContent (unsigned_abs g) p → leads_negative p ≡ false → int_eq g (pos 1) ≡ true → IsOwnPrimitive p
+primitive_itself [] poly g divisors leads one = (refl, refl, (1, omega arith, refl))
+primitive_itself (t ∷ ts) poly g divisors leads one =
+    let content_one = subst (λ n. IsContent n (t ∷ ts)) (ap unsigned_abs ((Decides-int_eq g (pos 1)).0 one)) divisors in
+    let all = divided_by_content (t ∷ ts) poly (λ none. not_nil none) (pos 1) 1 content_one (sym (ap (λ b. negated_if b 1) leads)) in
+    let same = divided_by_one (t ∷ ts) poly all.divides in
+    (sym all.is_primitive ∙ same, leads, subst (λ b. IsMultiple (t ∷ ts) (t ∷ ts) b) leads (subst (λ q. IsMultiple (t ∷ ts) q (leads_negative (t ∷ ts))) same all.is_multiple))
+  where
+    not_nil : t ∷ ts ≡ [] → ⊥
+    not_nil none = absurd (cc)
