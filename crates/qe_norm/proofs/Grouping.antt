@@ -6,8 +6,10 @@ use Rattle.std.specs.List as list
 use Rattle.std.proofs.lemmas.List.Elements.{All-from_recursion}
 use Rattle.qe_form.specs.Formula.{Formula}
 use Rattle.qe_form.specs.Blocks.{Kind, exists, for_all, Block, under_one, under_each, under_blocks, bound_by}
+use Rattle.qe_poly.specs.declared.monomial.Var.{Var}
+use Rattle.qe_norm.specs.declared.blocks.Kind as code
 use Rattle.qe_norm.specs.declared.walk.Quantifier.{Quantifier}
-use Rattle.qe_norm.specs.Blocks.{kind_of, is_same_kind, alone, with_variable, with_quantifier, grouped_after, grouped}
+use Rattle.qe_norm.specs.Blocks.{kind_of, block_of, is_same_kind, alone, with_variable, with_quantifier, grouped_after, grouped}
 use Rattle.qe_norm.proofs.Outwards.{under}
 
 -- ---- what they stand for
@@ -107,12 +109,14 @@ with_last (c ∷ []) b q = refl
 with_last (c ∷ d ∷ rest) b q = ap (λ bs. c ∷ bs) (with_last (d ∷ rest) b q)
 
 -- it joins the last block
-pub added_same : (blocks rest new : List Block) (b : Block) (vars : List ℕ) (q : Quantifier) → blocks ≡ rest ++ b ∷ [] → is_same_kind b.kind (kind_of q.kind) ≡ true → vars ≡ b.vars ++ q.var.0 ∷ []
-    → new ≡ rest ++ record { kind = b.kind; vars = vars } ∷ [] → new ≡ with_quantifier blocks q
-added_same blocks rest new b vars q last same made is =
+pub added_same : (blocks rest new : List Block) (k : code.Kind) (vars pushed : List Var) (q : Quantifier) → blocks ≡ rest ++ block_of k vars ∷ []
+    → is_same_kind (kind_of k) (kind_of q.kind) ≡ true → pushed ≡ vars ++ q.var ∷ [] → new ≡ rest ++ block_of k pushed ∷ [] → new ≡ with_quantifier blocks q
+added_same blocks rest new k vars pushed q last same made is =
+    let b = block_of k vars in
     is
-    ∙ ((λ i. rest ++ record { kind = b.kind; vars = made i } ∷ [])
-    ∙ ((λ i. rest ++ cond (sym same i) (with_variable b q ∷ []) (b ∷ alone q ∷ [])) ∙ (sym (with_last rest b q) ∙ ap (λ bs. with_quantifier bs q) (sym last))))
+    ∙ ((λ i. rest ++ block_of k (made i) ∷ [])
+    ∙ (ap (λ ns. rest ++ record { kind = kind_of k; vars = ns } ∷ []) (map-append (λ x. x.0) vars (q.var ∷ []))
+    ∙ ((λ i. rest ++ cond (sym same i) (with_variable b q ∷ []) (b ∷ alone q ∷ [])) ∙ (sym (with_last rest b q) ∙ ap (λ bs. with_quantifier bs q) (sym last)))))
 
 -- it begins a block
 pub added_other : (blocks rest old new : List Block) (b a : Block) (q : Quantifier) → blocks ≡ rest ++ b ∷ [] → is_same_kind b.kind (kind_of q.kind) ≡ false → old ≡ rest ++ b ∷ [] → a ≡ alone q → new ≡ old ++ a ∷ [] → new ≡ with_quantifier blocks q

@@ -14,9 +14,9 @@ use crate::OutOfMemory;
 use crate::blocks::{NormStop, Prenex};
 use crate::group::group;
 use crate::polarity::Polarity;
-use crate::size::{MOST_COUNTED, size};
+use crate::size::size;
 use crate::walk::{Walk, open};
-use qe_form::{Form, Input, Names};
+use qe_form::{Form, Input, MOST_COUNTED, Names};
 use std::alloc::Global;
 
 /// The prenex form, built in one walk.
@@ -48,9 +48,7 @@ pub fn normal(alloc: Global, input: Input) -> Result<Prenex, NormStop>
     requires few { length input.names < 2 ^ 31 }
     ensures exact { Answers (tree input.form) input.names result }
     ensures keeps { IfOk result (λ p. Preserves (tree input.form) (stands_for p)) }
-    ensures same {
-        IfOk result (λ p. HasDecidedCore (tree input.form) → Same (tree input.form) (stands_for p))
-    }
+    ensures same { IfOk result (λ p. HasDecidedCore (tree input.form) → Same (tree input.form) (stands_for p)) }
     ensures holds { IfOk result (λ p. HoldAlike (tree input.form) (stands_for p)) }
     ensures well_numbered { IfOk result (λ p. IsWellNumbered p) }
     ensures plain { IfOk result (λ p. IsPlain (tree p.matrix)) }

@@ -6,7 +6,7 @@ ghost use Rattle.qe_norm.specs.Polarity.{opposite, truth, conjunction, pair, sig
 
 use crate::OutOfMemory;
 use crate::blocks::Kind;
-use qe_form::{Form, Forms, Sequence, Signs};
+use qe_form::{Form, Forms, Signs};
 use std::alloc::Global;
 
 /// A formula is taken as it stands, or negated.
@@ -61,10 +61,10 @@ impl Polarity {
     pub fn pair(self, alloc: Global, left: Form, right: Form) -> Result<Form, OutOfMemory>
         ensures { IfOk result (λ f. tree f ≡ pair self (tree left) (tree right)) }
     {
-        let mut parts = Sequence::new(alloc);
-        parts.push(left)?;
-        parts.push(right)?;
-        Ok(self.conjunction(parts))
+        match self {
+            Polarity::Positive => Form::both(alloc, left, right),
+            Polarity::Negative => Form::either(alloc, left, right),
+        }
     }
 
     /// What the signs of an atom become.

@@ -67,12 +67,10 @@ fn open_atom(
     atom: &Atom,
     polarity: Polarity,
 ) -> Result<Form, OutOfMemory>
-    ensures {
-        IfOk result (λ f. tree f ≡ formula.Atom (record {
-            poly = renamed_by renamings.now atom.now.poly;
-            signs = signs_at polarity atom.now.signs;
-        }))
-    }
+    ensures { IfOk result (λ f. tree f ≡ formula.Atom (record {
+      poly = renamed_by renamings.now atom.now.poly;
+      signs = signs_at polarity atom.now.signs;
+    })) }
 {
     Ok(Form::Atom(Atom {
         poly: renamed_by(alloc, renamings, &atom.poly)?,
@@ -126,12 +124,10 @@ impl Walk {
     fn meet_again(&mut self, alloc: Global, var: Var) -> Result<Var, OutOfMemory>
         requires { length self.old.walked.names < 2 ^ 32 - 1 }
         ensures number { IfOk result (λ x. x.0 ≡ length self.old.walked.names) }
-        ensures state {
-            OnOk result (self.new ≡ record self.old {
-                walked = named_again self.old.walked var.0;
-                renamings = self.old.renamings ++ to_copy self.old.walked var.0 ∷ [];
-            })
-        }
+        ensures state { OnOk result (self.new ≡ record self.old {
+          walked = named_again self.old.walked var.0;
+          renamings = self.old.renamings ++ to_copy self.old.walked var.0 ∷ [];
+        }) }
     {
         let to = Var(self.names.len());
         let name = name_again(alloc, &self.names, var)?;
@@ -217,14 +213,10 @@ fn open_body(
     body: &Form,
     polarity: Polarity,
 ) -> Result<Form, OutOfMemory>
-    ensures state {
-        let s = entered quantifier.kind quantifier.var.0 walk.old in
-        OnOk result (walk.new ≡ left (length walk.old.renamings) (opened polarity (tree body.now) s).1)
-    }
-    ensures matrix {
-        let s = entered quantifier.kind quantifier.var.0 walk.old in
-        IfOk result (λ f. tree f ≡ (opened polarity (tree body.now) s).0)
-    }
+    ensures state { let s = entered quantifier.kind quantifier.var.0 walk.old in
+        OnOk result (walk.new ≡ left (length walk.old.renamings) (opened polarity (tree body.now) s).1) }
+    ensures matrix { let s = entered quantifier.kind quantifier.var.0 walk.old in
+        IfOk result (λ f. tree f ≡ (opened polarity (tree body.now) s).0) }
 {
     let depth = walk.renamings.len();
     walk.enter(alloc, quantifier)?;
