@@ -1,5 +1,5 @@
 -- What a walk has met: the variables that are taken, and how a quantifier adds to them.
-use Rattle.std.proofs.Common.{ℕ, ◌+◌, ◌<◌, ◌≤◌, Bool, true, false, cond, ◌&&◌, ltb, ◌≡◌, ◌∙◌, inl, inr, refl, sym, [], ◌∷◌, ◌++◌, length, get_or, set, length-append, length-set, get_or-set_same, get_or-set_other, arith}
+use Rattle.std.proofs.Common.{ℕ, ◌+◌, ◌<◌, ◌≤◌, Bool, true, false, cond, ◌&&◌, ltb, ◌≡◌, ◌∙◌, inl, inr, refl, sym, [], ◌∷◌, length, get_or, length-append, length-set, get_or-set_same, get_or-set_other, arith}
 use Rattle.std.proofs.lemmas.Bool.{cases_eq}
 use Rattle.std.proofs.lemmas.Bool.Decides.{nat_tests}
 use Rattle.std.specs.Prelude.{unwrap_or, slice_get}

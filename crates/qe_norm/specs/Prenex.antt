@@ -1,5 +1,5 @@
 -- The prenex form of a formula, and what is known of it.
-use Rattle.std.specs.Prelude.{ℕ, ◌-◌, ◌^◌, ◌<◌, ◌≤◌, ◌≡◌, true, List, [], length, nat_eq, Result, Ok, Err}
+use Rattle.std.specs.Prelude.{ℕ, ◌-◌, ◌^◌, ◌<◌, ◌≤◌, ◌≡◌, List, [], length, nat_eq, Result, Ok, Err}
 use Rattle.std.specs.List.{IsDistinct, Contains, All}
 use Rattle.qe_form.specs.Formula.{Formula}
 use Rattle.qe_form.specs.Tree.{tree}

@@ -1,4 +1,4 @@
-use Rattle.std.proofs.Common.{◌∙◌, sym, ap}
+use Rattle.std.proofs.Common.{◌∙◌, ap}
 use Rattle.qe_form.specs.Tree.{tree}
 use Rattle.qe_norm.specs.Blocks.{grouped}
 use Rattle.qe_norm.proofs.Assembled.{assembled}
