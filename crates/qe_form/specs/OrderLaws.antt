@@ -1,5 +1,5 @@
 -- The order of formulas is total, and ties only equal formulas: it is that of the formulas written as lists of tokens.
-use Rattle.std.proofs.Common.{ℕ, ◌≡◌, refl, sym, ap, subst, ◌∙◌, Bool, true, false, T, List, [], ◌∷◌, ◌++◌, append_assoc, ltb, eqb, ◌/◌, ◌%◌}
+use Rattle.std.proofs.Common.{ℕ, ◌≡◌, refl, sym, ap, subst, ◌∙◌, Bool, true, false, List, [], ◌∷◌, ◌++◌, append_assoc, ltb, eqb, ◌/◌, ◌%◌}
 use Rattle.std.proofs.lemmas.List.{append-nil}
 use Rattle.std.specs.declared.cmp.Ordering.{Ordering}
 use Rattle.std.specs.declared.cmp.Ordering.TheVariants.{Less, Equal, Greater}

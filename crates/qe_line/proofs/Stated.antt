@@ -1,5 +1,5 @@
 -- The laws as they are stated, from the lemmas.
-use Rattle.std.proofs.Common.{◌≡◌, ◌↔◌, Bool, true, false, ◌&&◌, T, sym, subst}
+use Rattle.std.proofs.Common.{◌≡◌, ◌↔◌, ◌&&◌, T, sym, subst}
 use Rattle.qe_ring.proofs.Bools.{and_left, and_right}
 use Rattle.qe_ring.specs.Ring.{Operations}
 use Rattle.qe_ring.specs.Sign.{Sign, Zero, is}

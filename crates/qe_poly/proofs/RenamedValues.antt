@@ -1,5 +1,5 @@
 -- The value of a polynomial with y in the place of x is its value where x has the value of y, in every ring.
-use Rattle.std.proofs.Common.{◌≡◌, refl, sym, ap, subst, ℕ, eqb, Bool, true, false, cond, not, ◌&&◌, ◌||◌, [], ◌∷◌, map, ℤ, arith}
+use Rattle.std.proofs.Common.{◌≡◌, refl, sym, ap, ℕ, eqb, true, false, cond, not, ◌&&◌, [], ◌∷◌, map, ℤ, arith}
 use Rattle.std.proofs.lemmas.Bool.Decides.{nat_tests}
 use Rattle.qe_ring.proofs.Bools.{neither}
 use Rattle.qe_ring.specs.Ring.{Operations, IsRing}

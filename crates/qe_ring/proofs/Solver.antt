@@ -1,5 +1,5 @@
 -- Equal normal forms have equal values, in every ring: identities of rings by computing.
-use Rattle.std.proofs.Common.{◌≡◌, ℕ, zero, suc, ◌+◌, ◌*◌, Bool, true, false, cond, ◌&&◌, T, leb, eqb, eqb→eq, List, [], ◌∷◌, refl, sym, ap, ap₂, subst, ℤ, pos, negsuc, ◌+ℤ◌, ◌*ℤ◌, neg_ℤ, arith, zero-add, suc-add, zero-mul, suc-mul}
+use Rattle.std.proofs.Common.{◌≡◌, ℕ, zero, suc, ◌+◌, ◌*◌, Bool, true, false, cond, T, leb, eqb, eqb→eq, List, [], ◌∷◌, refl, sym, ap, ap₂, subst, ℤ, pos, negsuc, ◌+ℤ◌, ◌*ℤ◌, neg_ℤ, arith, zero-add, suc-add, zero-mul, suc-mul}
 use borrow.Author.Differences.{up, down, sum_is_lem, product_is, neg_is}
 use Rattle.qe_ring.proofs.Bools.{and_left, and_right}
 use Rattle.qe_ring.specs.Ring.{Operations, IsRing}

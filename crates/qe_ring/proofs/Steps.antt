@@ -1,5 +1,5 @@
 -- Steps of a calculation in a ring, with the elements left to be found.
-use Rattle.std.proofs.Common.{◌≡◌, subst, List, [], ◌∷◌, refl}
+use Rattle.std.proofs.Common.{◌≡◌, subst, [], ◌∷◌, refl}
 use Rattle.qe_ring.specs.Ring.{Operations, IsRing}
 use Rattle.qe_ring.specs.Expression.{var, nought, ◌⊕◌, ◌⊗◌}
 use Rattle.qe_ring.proofs.Solver.{solve}
