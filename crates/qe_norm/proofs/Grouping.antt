@@ -1,5 +1,5 @@
 -- Blocks: they stand for their quantifiers one after another, and there are no more of them, nor longer ones, than quantifiers.
-use Rattle.std.proofs.Common.{ℕ, ◌+◌, ◌≤◌, Bool, true, false, cond, ◌≡◌, ◌∙◌, refl, sym, ap, List, [], ◌∷◌, ◌++◌, map, length, length-append, arith}
+use Rattle.std.proofs.Common.{ℕ, ◌+◌, ◌≤◌, Bool, true, false, cond, ◌≡◌, ◌∙◌, refl, sym, ap, List, [], ◌∷◌, ◌++◌, length, length-append, arith}
 use Rattle.std.proofs.lemmas.List.{append_assoc, append-nil, map-append}
 use Rattle.std.specs.List.{AllByRecursion}
 use Rattle.std.specs.List as list
@@ -10,7 +10,7 @@ use Rattle.qe_poly.specs.declared.monomial.Var.{Var}
 use Rattle.qe_norm.specs.declared.blocks.Kind as code
 use Rattle.qe_norm.specs.declared.walk.Quantifier.{Quantifier}
 use Rattle.qe_norm.specs.Blocks.{kind_of, block_of, is_same_kind, alone, with_variable, with_quantifier, grouped_after, grouped}
-use Rattle.qe_norm.proofs.Outwards.{under}
+use Rattle.qe_norm.proofs.Outwards.{under, vars_of}
 
 -- ---- what they stand for
 
@@ -43,9 +43,6 @@ pub under_grouped : (qs : List Quantifier) (f : Formula) → under_blocks (group
 under_grouped qs f = under_after [] qs f
 
 -- ---- their variables
-
-abbrev pub vars_of : List Quantifier → List ℕ
-vars_of qs = map (λ q. q.var.0) qs
 
 bound_by_with : (bs : List Block) (q : Quantifier) → bound_by (with_quantifier bs q) ≡ bound_by bs ++ q.var.0 ∷ []
 bound_by_with [] q = refl
