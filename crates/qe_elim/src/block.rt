@@ -18,7 +18,8 @@ use qe_norm::{Block, Kind};
 use qe_simp::simplify;
 use std::alloc::Global;
 
-/// The formula at the root of the block's tree: the simplified matrix, which is negated first for `all`.
+/// The formula at the root of the block's tree: the simplified matrix, which is negated first for
+/// `all`.
 fn root_of(alloc: Global, kind: Kind, matrix: Form) -> Result<Form, OutOfMemory>
     requires plain { IsPlain (tree matrix) }
     requires small { count (tree matrix) < 2 ^ 50 }

@@ -9,7 +9,7 @@ use Rattle.qe_form.specs.Numbered.{binders, binders_each}
 use Rattle.qe_norm.proofs.Numbers.{eqb_apart, apart_from}
 use Rattle.qe_norm.specs.declared.polarity.Polarity.{Polarity}
 use Rattle.qe_norm.specs.declared.polarity.Polarity.TheVariants.{Positive, Negative}
-use Rattle.qe_norm.specs.Polarity.{opposite, truth, conjunction, pair, existential}
+use Rattle.qe_norm.specs.Polarity.{flipped, truth_under, conjunction, pair, existential}
 use Rattle.qe_norm.specs.NormalForm.{normal_form, normal_forms}
 
 -- the number is one of these
@@ -153,7 +153,7 @@ binds_quantified : (b : Polarity) (y : ℕ) (f : Formula) (x : ℕ) → Binds x 
 binds_quantified Positive y f x h = h
 binds_quantified Negative y f x h = h
 
-binds_constant : (b : Polarity) (x : ℕ) → Binds x (truth b) → ⊥
+binds_constant : (b : Polarity) (x : ℕ) → Binds x (truth_under b) → ⊥
 binds_constant Positive x h = h
 binds_constant Negative x h = h
 
@@ -167,22 +167,22 @@ in_pair x xs ys us vs p q h =
 mutual
   pub binds_normal : (b : Polarity) (f : Formula) (x : ℕ) → Binds x (normal_form b f) → Binds x f
   binds_normal b True x h = binds_constant b x h
-  binds_normal b False x h = binds_constant (opposite b) x h
+  binds_normal b False x h = binds_constant (flipped b) x h
   binds_normal b (Atom a) x h = h
   binds_normal b (And fs) x h = bind_normal b fs x (binds_connected b (normal_forms b fs) x h)
-  binds_normal b (Or fs) x h = bind_normal b fs x (binds_connected (opposite b) (normal_forms b fs) x h)
-  binds_normal b (Not f) x h = binds_normal (opposite b) f x h
-  binds_normal b (Implies f g) x h = in_pair x _ _ (binders f) (binders g) (binds_normal (opposite b) f x) (binds_normal b g x) (binds_connected (opposite b) _ x h)
+  binds_normal b (Or fs) x h = bind_normal b fs x (binds_connected (flipped b) (normal_forms b fs) x h)
+  binds_normal b (Not f) x h = binds_normal (flipped b) f x h
+  binds_normal b (Implies f g) x h = in_pair x _ _ (binders f) (binders g) (binds_normal (flipped b) f x) (binds_normal b g x) (binds_connected (flipped b) _ x h)
   binds_normal b (Iff f g) x h =
-      elim (in_either x (binders (pair Positive (normal_form Positive f) (normal_form b g))) (binders (pair Positive (normal_form Negative f) (normal_form (opposite b) g)) ++ []) h) [
+      elim (in_either x (binders (pair Positive (normal_form Positive f) (normal_form b g))) (binders (pair Positive (normal_form Negative f) (normal_form (flipped b) g)) ++ []) h) [
         | inl s ↦ in_pair x _ _ (binders f) (binders g) (binds_normal Positive f x) (binds_normal b g x) s
-        | inr t ↦ elim (in_either x (binders (pair Positive (normal_form Negative f) (normal_form (opposite b) g))) [] t) [
-          | inl s ↦ in_pair x _ _ (binders f) (binders g) (binds_normal Negative f x) (binds_normal (opposite b) g x) s
+        | inr t ↦ elim (in_either x (binders (pair Positive (normal_form Negative f) (normal_form (flipped b) g))) [] t) [
+          | inl s ↦ in_pair x _ _ (binders f) (binders g) (binds_normal Negative f x) (binds_normal (flipped b) g x) s
           | inr n ↦ absurd n
         ]
       ]
   binds_normal b (Ex y f) x h = elim (binds_quantified b y (normal_form b f) x h) [ inl e ↦ inl e | inr k ↦ inr (binds_normal b f x k) ]
-  binds_normal b (All y f) x h = elim (binds_quantified (opposite b) y (normal_form b f) x h) [ inl e ↦ inl e | inr k ↦ inr (binds_normal b f x k) ]
+  binds_normal b (All y f) x h = elim (binds_quantified (flipped b) y (normal_form b f) x h) [ inl e ↦ inl e | inr k ↦ inr (binds_normal b f x k) ]
 
   bind_normal : (b : Polarity) (fs : Formulas) (x : ℕ) → BindsIn x (normal_forms b fs) → BindsIn x fs
   bind_normal b no_more x h = h
@@ -200,22 +200,22 @@ ready_quantified : (b : Polarity) (x : ℕ) (f : Formula) → (Binds x f → ⊥
 ready_quantified Positive x f h = h
 ready_quantified Negative x f h = h
 
-ready_constant : (b : Polarity) → IsReady (truth b)
+ready_constant : (b : Polarity) → IsReady (truth_under b)
 ready_constant Positive = tt
 ready_constant Negative = tt
 
 mutual
   pub ready : (b : Polarity) (f : Formula) → IsNested f → IsReady (normal_form b f)
   ready b True h = ready_constant b
-  ready b False h = ready_constant (opposite b)
+  ready b False h = ready_constant (flipped b)
   ready b (Atom a) h = tt
   ready b (And fs) h = ready_connected b (normal_forms b fs) (ready_each b fs h)
-  ready b (Or fs) h = ready_connected (opposite b) (normal_forms b fs) (ready_each b fs h)
-  ready b (Not f) h = ready (opposite b) f h
-  ready b (Implies f g) h = ready_connected (opposite b) _ (ready (opposite b) f h.0, (ready b g h.1, tt))
-  ready b (Iff f g) h = ((ready Positive f h.0, (ready b g h.1, tt)), ((ready Negative f h.0, (ready (opposite b) g h.1, tt)), tt))
+  ready b (Or fs) h = ready_connected (flipped b) (normal_forms b fs) (ready_each b fs h)
+  ready b (Not f) h = ready (flipped b) f h
+  ready b (Implies f g) h = ready_connected (flipped b) _ (ready (flipped b) f h.0, (ready b g h.1, tt))
+  ready b (Iff f g) h = ((ready Positive f h.0, (ready b g h.1, tt)), ((ready Negative f h.0, (ready (flipped b) g h.1, tt)), tt))
   ready b (Ex x f) h = ready_quantified b x (normal_form b f) (λ k. h.0 (binds_normal b f x k), ready b f h.1)
-  ready b (All x f) h = ready_quantified (opposite b) x (normal_form b f) (λ k. h.0 (binds_normal b f x k), ready b f h.1)
+  ready b (All x f) h = ready_quantified (flipped b) x (normal_form b f) (λ k. h.0 (binds_normal b f x k), ready b f h.1)
 
   ready_each : (b : Polarity) (fs : Formulas) → AreNested fs → AreReady (normal_forms b fs)
   ready_each b no_more h = tt

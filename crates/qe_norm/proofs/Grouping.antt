@@ -5,7 +5,7 @@ use Rattle.std.specs.List.{AllByRecursion}
 use Rattle.std.specs.List as list
 use Rattle.std.proofs.lemmas.List.Elements.{All-from_recursion}
 use Rattle.qe_form.specs.Formula.{Formula}
-use Rattle.qe_form.specs.Blocks.{Kind, exists, for_all, Block, under_one, under_each, under_blocks, bound_by}
+use Rattle.qe_form.specs.Blocks.{QuantifierKind, exists, for_all, Block, under_one, under_each, under_blocks, bound_by}
 use Rattle.qe_poly.specs.declared.monomial.Var.{Var}
 use Rattle.qe_norm.specs.declared.blocks.Kind as code
 use Rattle.qe_norm.specs.declared.walk.Quantifier.{Quantifier}
@@ -14,13 +14,13 @@ use Rattle.qe_norm.proofs.Outwards.{under, vars_of}
 
 -- ---- what they stand for
 
-same_kind_is : (j k : Kind) → is_same_kind j k ≡ true → j ≡ k
+same_kind_is : (j k : QuantifierKind) → is_same_kind j k ≡ true → j ≡ k
 same_kind_is exists exists e = refl
 same_kind_is exists for_all e = absurd (cc)
 same_kind_is for_all exists e = absurd (cc)
 same_kind_is for_all for_all e = refl
 
-each_push : (k : Kind) (xs : List ℕ) (x : ℕ) (f : Formula) → under_each k (xs ++ x ∷ []) f ≡ under_each k xs (under_one k x f)
+each_push : (k : QuantifierKind) (xs : List ℕ) (x : ℕ) (f : Formula) → under_each k (xs ++ x ∷ []) f ≡ under_each k xs (under_one k x f)
 each_push k [] x f = refl
 each_push k (y ∷ xs) x f = ap (under_one k y) (each_push k xs x f)
 

@@ -7,7 +7,7 @@ use Rattle.qe_form.specs.Measures.{count, count_each}
 use Rattle.qe_form.specs.Numbered.{binders, binders_each, Occurs, OccursInOne}
 use Rattle.qe_form.specs.Plain.{IsPlain, ArePlainWith}
 use Rattle.qe_form.specs.Same.{IsFree, IsFreeInSome}
-use Rattle.qe_form.specs.Blocks.{Kind, exists, for_all, under_one}
+use Rattle.qe_form.specs.Blocks.{QuantifierKind, exists, for_all, under_one}
 use Rattle.qe_norm.specs.declared.walk.Quantifier.{Quantifier}
 use Rattle.qe_norm.specs.Blocks.{kind_of, prefix, prefix_each, matrix, matrix_each}
 use Rattle.qe_norm.proofs.Binders.{in_left, in_right, none_distinct, distinct_cons, distinct_append, Binds, BindsIn, IsReady, AreReady}
@@ -35,7 +35,7 @@ mutual
 
 -- ---- the variables that occur
 
-occurs_quantified : (k : Kind) (x : ℕ) (f : Formula) (z : ℕ) → Occurs z (under_one k x f) → (z ≡ x) ⊎ Occurs z f
+occurs_quantified : (k : QuantifierKind) (x : ℕ) (f : Formula) (z : ℕ) → Occurs z (under_one k x f) → (z ≡ x) ⊎ Occurs z f
 occurs_quantified exists x f z o = o
 occurs_quantified for_all x f z o = o
 

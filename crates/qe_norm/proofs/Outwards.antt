@@ -11,7 +11,7 @@ use Rattle.qe_form.specs.Truth.{Is}
 use Rattle.qe_form.specs.Same.{IsFree, IsFreeInSome}
 use Rattle.qe_form.specs.Numbered.{binders, binders_each}
 use Rattle.qe_form.proofs.FreeReads.{truth_reads}
-use Rattle.qe_form.specs.Blocks.{Kind, exists, for_all, under_one}
+use Rattle.qe_form.specs.Blocks.{QuantifierKind, exists, for_all, under_one}
 use Rattle.qe_norm.specs.declared.walk.Quantifier.{Quantifier}
 use Rattle.qe_norm.specs.Blocks.{kind_of, prefix, prefix_each, matrix, matrix_each}
 use Rattle.qe_norm.proofs.Numbers.{eqb_apart}
@@ -85,17 +85,17 @@ ranging_moved true P Q move t = (t.0, t.1, move t.0 t.1 t.2)
 ranging_moved false P Q move t = λ v k. move v k (t v k)
 
 -- whether a quantifier at a truth speaks of some number
-abbrev range : Kind → Bool → Bool
+abbrev range : QuantifierKind → Bool → Bool
 range exists b = b
 range for_all b = not b
 
-ranges : (k : Kind) (x : ℕ) (f : Formula) (b : Bool) (p : Point) → Is (under_one k x f) b p → Ranging (range k b) (λ v. Is f b ((x, v) ∷ p))
+ranges : (k : QuantifierKind) (x : ℕ) (f : Formula) (b : Bool) (p : Point) → Is (under_one k x f) b p → Ranging (range k b) (λ v. Is f b ((x, v) ∷ p))
 ranges exists x f true p t = t
 ranges exists x f false p t = t
 ranges for_all x f true p t = t
 ranges for_all x f false p t = t
 
-ranges_back : (k : Kind) (x : ℕ) (f : Formula) (b : Bool) (p : Point) → Ranging (range k b) (λ v. Is f b ((x, v) ∷ p)) → Is (under_one k x f) b p
+ranges_back : (k : QuantifierKind) (x : ℕ) (f : Formula) (b : Bool) (p : Point) → Ranging (range k b) (λ v. Is f b ((x, v) ∷ p)) → Is (under_one k x f) b p
 ranges_back exists x f true p t = t
 ranges_back exists x f false p t = t
 ranges_back for_all x f true p t = t
@@ -109,7 +109,7 @@ not_free_reads f b x v p none t =
 
 -- ---- quantifiers of two parts
 
-free_quantified : (k : Kind) (x : ℕ) (f : Formula) (z : ℕ) → IsFree z (under_one k x f) → (z ≡ x → ⊥) × IsFree z f
+free_quantified : (k : QuantifierKind) (x : ℕ) (f : Formula) (z : ℕ) → IsFree z (under_one k x f) → (z ≡ x → ⊥) × IsFree z f
 free_quantified exists x f z o = o
 free_quantified for_all x f z o = o
 

@@ -17,12 +17,12 @@ use Rattle.qe_form.proofs.Preservation.{preserves_is_same}
 use Rattle.qe_norm.specs.declared.blocks.Prenex.{Prenex}
 use Rattle.qe_norm.specs.declared.polarity.Polarity.{Polarity}
 use Rattle.qe_norm.specs.declared.polarity.Polarity.TheVariants.{Positive, Negative}
-use Rattle.qe_norm.specs.Polarity.{opposite, existential}
+use Rattle.qe_norm.specs.Polarity.{flipped, existential}
 use Rattle.qe_norm.specs.NormalForm.{normal_form}
 use Rattle.qe_norm.specs.Numbering.{Walked, is_copy, named_again, met_first, to_copy, numbered, start}
 use Rattle.qe_norm.specs.Blocks.{prefix, matrix}
 use Rattle.qe_form.specs.Blocks.{under_blocks, bound_by}
-use Rattle.qe_norm.specs.Prenex.{walk, prenex_size, IsPrenexOf, stands_for, IsWellNumbered}
+use Rattle.qe_norm.specs.Prenex.{numbered_form, prenex_size, IsPrenexOf, stands_for, IsWellNumbered}
 use Rattle.qe_norm.proofs.Opened.{normal_form_is, free_normal, normal_is_same, decided_normal}
 use Rattle.qe_norm.proofs.Binders.{in_either, contained, contains, Binds, BindsIn, nested, binds_normal, ready}
 use Rattle.qe_norm.proofs.Steps.{IsTaken, is_met}
@@ -138,7 +138,7 @@ module _ (n : ℕ) (Bound : ℕ → Type 0) (below : (z : ℕ) → Bound z → z
   same_core b (Or fs) h w fits new = of_decided _ w fits (decided_normal b (Or fs) h)
   same_core b (Implies f g) h w fits new = of_decided _ w fits (decided_normal b (Implies f g) h)
   same_core b (Iff f g) h w fits new = of_decided _ w fits (decided_normal b (Iff f g) h)
-  same_core b (Not f) h w fits new = by_side h (λ k. same_core (opposite b) f k w fits new)
+  same_core b (Not f) h w fits new = by_side h (λ k. same_core (flipped b) f k w fits new)
     where
       by_side : IsDecided (Not f) ⊎ HasDecidedCore f → (HasDecidedCore f → Same (normal_form b (Not f)) (outside (normal_form b (Not f)) w)) → Same (normal_form b (Not f)) (outside (normal_form b (Not f)) w)
       by_side (inl d) again = of_decided _ w fits (decided_normal b (Not f) d)
@@ -154,7 +154,7 @@ module _ (n : ℕ) (Bound : ℕ → Type 0) (below : (z : ℕ) → Bound z → z
       by_side : IsDecided (ForAll x f) ⊎ HasDecidedCore f → (HasDecidedCore f → (v : Walked) → Fits n Bound below (normal_form b f) [] v → AreNew (normal_form b f) v → Same (normal_form b f) (outside (normal_form b f) v))
           → Same (normal_form b (ForAll x f)) (outside (normal_form b (ForAll x f)) w)
       by_side (inl d) again = of_decided _ w fits (decided_normal b (ForAll x f) d)
-      by_side (inr k) again = quantified_core (opposite b) x (normal_form b f) w fits new (again k)
+      by_side (inr k) again = quantified_core (flipped b) x (normal_form b f) w fits new (again k)
 
 -- ---- the whole
 
@@ -173,10 +173,10 @@ module _ (f : Formula) (names : List (List ℕ)) (well : input_names.IsWellNumbe
 
   -- the formula that the walk makes, and what is met after it
   abbrev g : Formula
-  g = (walk f names).0
+  g = (numbered_form f names).0
 
   abbrev last : Walked
-  last = (walk f names).1
+  last = (numbered_form f names).1
 
   fits : Fits n Bound below nf [] (start names)
   fits = record {
