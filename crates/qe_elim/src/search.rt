@@ -4,7 +4,6 @@ ghost use Rattle.std.specs.Prelude.{◌≡◌, ◌≢◌, ◌≤◌, ◌<◌, �
 ghost use Rattle.std.specs.Option.{option_map};
 ghost use Rattle.qe_form.specs.Tree.{tree};
 ghost use Rattle.qe_tree.specs.Tree.{is_among};
-ghost use Rattle.qe_tree.specs.Tree as spec;
 ghost use Rattle.qe_form.specs.Measures.{count};
 ghost use Rattle.qe_simp.specs.Shape.{IsSimplified};
 ghost use Rattle.qe_elim.specs.Search.{steps_of, fault_of, entry_of, entries, entry_below, IsGrowth, leaf_of, failure_at, entries_below, or_else, state_of, visited, IsTurn, IsEnd};
@@ -72,16 +71,6 @@ impl<T: Drop> From<AllocFailed<T>> for SearchStop {
 
     fn from(_error: AllocFailed<T>) -> SearchStop {
         SearchStop::OutOfMemory
-    }
-}
-
-/// Whether the formula is True.
-fn is_true(form: &Form) -> bool
-    ensures { result ≡ spec.is_true (tree form.now) }
-{
-    match form {
-        Form::True => true,
-        _ => false,
     }
 }
 
@@ -193,7 +182,7 @@ fn turn(
     if seen.met.len() >= limit as usize {
         return Err(SearchStop::Limit);
     }
-    if is_true(&node.form) {
+    if node.form.is_true() {
         return Ok(true);
     }
     visit(alloc, seen, waiting, path, node)?;

@@ -9,7 +9,8 @@ use Rattle.qe_form.specs.Formula.{Formula}
 use Rattle.qe_form.specs.Measures.{degree}
 use Rattle.qe_points.specs.Choice.{first_of_degree, or_else, choice}
 use Rattle.qe_points.specs.Candidates.{candidates}
-use Rattle.qe_tree.specs.Variables.{occurs, remaining}
+use Rattle.qe_form.specs.Measures.{occurs}
+use Rattle.qe_tree.specs.Variables.{remaining}
 use Rattle.qe_tree.specs.Sound.{IsIn}
 use Rattle.qe_piece.specs.Meaning.{Child, Descends}
 use Rattle.qe_node.specs.declared.stop.NodeStop.{NodeStop}

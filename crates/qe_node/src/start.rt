@@ -4,7 +4,8 @@ ghost use Rattle.std.specs.Prelude.{◌≡◌, ◌≢◌, ◌<◌, ◌≤◌, �
 ghost use Rattle.qe_form.specs.Measures.{count};
 ghost use Rattle.qe_form.specs.Plain.{IsPlainAndProper};
 ghost use Rattle.qe_form.specs.Tree.{tree};
-ghost use Rattle.qe_tree.specs.Variables.{occurs, remaining};
+ghost use Rattle.qe_form.specs.Measures.{occurs};
+ghost use Rattle.qe_tree.specs.Variables.{remaining};
 
 use crate::{Form, Node, OutOfMemory, Sequence, Var, Vars};
 use std::alloc::Global;

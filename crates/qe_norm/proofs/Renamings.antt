@@ -1,7 +1,6 @@
 -- Renamings in force: where a variable ends, the point that the formula before them sees, and what atoms keep.
 use Rattle.std.proofs.Common.{ℕ, suc, ◌<◌, ◌≤◌, Bool, true, false, cond, eqb, ◌≡◌, ◌≢◌, ◌∙◌, ◌⊎◌, inl, inr, refl, sym, ap, List, [], ◌∷◌, ◌++◌, Some, if◌then◌else◌, arith}
 use Rattle.std.proofs.lemmas.Bool.{eqb-true}
-use Rattle.std.proofs.lemmas.Bool.Decides.{nat_tests}
 use Rattle.qe_tower.specs.Number.{Number, sign_of}
 use Rattle.qe_tower.specs.Point.{Point, IsPoint, look_up, or_zero, number_at}
 use Rattle.qe_poly.specs.Polynomial.{Polynomial}
@@ -9,18 +8,11 @@ use Rattle.qe_poly.specs.Renamed.{renamed}
 use Rattle.qe_form.specs.Value.{value}
 use Rattle.qe_poly.specs.Occurs.{OccursInSome}
 use Rattle.qe_form.proofs.Values.{number_at_valid}
-use Rattle.qe_form.proofs.Renamed.{stands_nowhere, occurs_renamed, same_sign}
+use Rattle.qe_poly.proofs.Occurring.{occurs_nowhere}
+use Rattle.qe_form.proofs.Renamed.{occurs_renamed, same_sign}
 use Rattle.qe_norm.specs.declared.walk.Renaming.{Renaming}
 use Rattle.qe_norm.specs.Numbering.{renamed_by}
-
-eqb_itself : (i j : ℕ) → i ≡ j → eqb i j ≡ true
-eqb_itself i j same = grind (arith, nat_tests)
-
-eqb_apart : (i j : ℕ) → i ≢ j → eqb i j ≡ false
-eqb_apart i j apart = grind (arith, nat_tests)
-
-apart_from : (i j : ℕ) → eqb i j ≡ false → i ≢ j
-apart_from i j test same = grind (arith, nat_tests)
+use Rattle.qe_norm.proofs.Numbers.{eqb_itself, eqb_apart}
 
 -- ---- where a variable ends
 
@@ -90,7 +82,7 @@ fresh q n (r ∷ rs) m h small =
     let none : OccursInSome r.to.0 q → ⊥ = λ o. (let k = small r.to.0 o in let l = h.0 in omega arith) in (
       none,
       fresh (renamed r.from r.to q) (suc r.to.0) rs m h.1 (λ z o.
-          elim (occurs_renamed r.from r.to z q (stands_nowhere r.to.0 q none) o) [ inl k ↦ (let e = k.0 in omega arith) | inr k ↦ (let l = small z k.1 in let u = h.0 in omega arith) ]),
+          elim (occurs_renamed r.from r.to z q (occurs_nowhere r.to.0 q none) o) [ inl k ↦ (let e = k.0 in omega arith) | inr k ↦ (let l = small z k.1 in let u = h.0 in omega arith) ]),
     )
 
 -- each variable that occurs comes from one that occurred
@@ -101,8 +93,8 @@ occurs_from q n rs m rising small z o = from q rs (fresh q n rs m rising small) 
     from q [] new z o = (z, o, refl)
     from q (r ∷ rs) new z o =
         let h = from (renamed r.from r.to q) rs new.1 z o in
-        elim (occurs_renamed r.from r.to h.0 q (stands_nowhere r.to.0 q new.0) h.1) [
-          | inl k ↦ (r.from.0, k.1, h.2 ∙ (ap (image rs) k.0 ∙ ap (λ b. image rs (cond b r.to.0 r.from.0)) (sym (eqb_itself r.from.0 r.from.0 refl))))
+        elim (occurs_renamed r.from r.to h.0 q (occurs_nowhere r.to.0 q new.0) h.1) [
+          | inl k ↦ (r.from.0, k.1, h.2 ∙ (ap (image rs) k.0 ∙ ap (λ b. image rs (cond b r.to.0 r.from.0)) (sym (eqb_itself r.from.0))))
           | inr k ↦ (h.0, k.1, h.2 ∙ ap (λ b. image rs (cond b r.to.0 h.0)) (sym (eqb_apart r.from.0 h.0 (λ e. k.0 (sym e)))))
         ]
 
@@ -173,4 +165,4 @@ seen_sign q n rs m rising small p valid = go q rs (fresh q n rs m rising small)
   where
     go : (q : Polynomial) (rs : List Renaming) → Fresh q rs → sign_of (value (renamed_by rs q) p) ≡ sign_of (value q (seen rs p))
     go q [] new = refl
-    go q (r ∷ rs) new = go (renamed r.from r.to q) rs new.1 ∙ same_sign r.from r.to q (seen rs p) (seen_valid rs p valid) (stands_nowhere r.to.0 q new.0)
+    go q (r ∷ rs) new = go (renamed r.from r.to q) rs new.1 ∙ same_sign r.from r.to q (seen rs p) (seen_valid rs p valid) (occurs_nowhere r.to.0 q new.0)

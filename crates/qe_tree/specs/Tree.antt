@@ -1,9 +1,11 @@
--- The tree of a block: its root and, below each node that has variables and does not fail, the successors in order.
+-- The tree of a block: its root and, below each node that has variables and does not fail, the
+-- successors in order.
 use Rattle.std.specs.Prelude.{ℕ, zero, suc, Bool, true, false, cond, List, [], ◌∷◌, ◌++◌, map, filter, flat_map, length, Option, Some, None}
 use Rattle.std.specs.List.{list_any}
 use Rattle.std.specs.Ordering.{is_eq}
 use Rattle.qe_form.specs.Formula.{Formula, True, Or}
 use Rattle.qe_form.specs.Tree.{trees_of}
+use Rattle.qe_form.specs.Making.{is_true}
 use Rattle.qe_form.specs.Order.{formula_cmp}
 use Rattle.qe_simp.specs.Simplified.{simplified}
 use Rattle.qe_tree.specs.Variables.{remaining}
@@ -22,10 +24,6 @@ pub record Place : Type 0 where
 abbrev pub is_empty : {A : Type 0} → List A → Bool
 is_empty [] = true
 is_empty (x ∷ xs) = false
-
-abbrev pub is_true : Formula → Bool
-is_true True = true
-is_true f = false
 
 -- what a block gives: a formula, or the steps to the first node that fails, and why
 pub data Inner (F : Type 0) : Type 0 where
@@ -67,7 +65,8 @@ module _ {F : Type 0} (expand : Expansion F) (vars : List ℕ) where
   walk zero path f = record { path = path; form = f } ∷ []
   walk (suc n) path f = record { path = path; form = f } ∷ flat_map (λ s. walk n (path ++ s.0 ∷ []) s.1) (below f)
 
-  -- the places of the whole tree, with repeats: each step eliminates a variable, so there are no more steps than variables
+  -- the places of the whole tree, with repeats: each step eliminates a variable, so there are no
+  -- more steps than variables
   abbrev pub places : Formula → List Place
   places f = walk (length (remaining vars f)) [] f
 
