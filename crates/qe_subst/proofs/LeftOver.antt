@@ -21,7 +21,7 @@ use Rattle.qe_subst.specs.Canonical.{IsCanonical, AreCanonical}
 use Rattle.qe_subst.specs.Left.{OccursInRoot, OccursAt, IsLeft}
 use Rattle.qe_subst.specs.Substituted.{strict, is_even, is_own, constant, sign_is, at_root, near, each_coefficient, everywhere, line_below, square_below, at_minus_infinity, at_point, for_atom, substituted, substituted_each}
 use Rattle.qe_subst.proofs.Degrees.{coefficient_whole, occurs_coefficient, occurs_nonzero, occurs_negative, occurs_sum, occurs_product}
-use Rattle.qe_subst.proofs.Slope.{degree_of_slope}
+use Rattle.qe_subst.proofs.Derivatives.{degree_of_derivative}
 
 module _ (y : ℕ) where
   -- ---- multiples and derivatives
@@ -174,17 +174,17 @@ module _ (y : ℕ) where
               | false ↦ λ h. sign_from (plain_part_of f x k) (root_part_of f x k) k.r s plain_from root_from by_r h
             ] m
 
-      of_slope : (f : Polynomial) → From (derivative x f) → From f
-      of_slope f (inl o) = inl (o.0, occurs_derivative x f o.1)
-      of_slope f (inr h) = inr h
+      of_derivative : (f : Polynomial) → From (derivative x f) → From f
+      of_derivative f (inl o) = inl (o.0, occurs_derivative x f o.1)
+      of_derivative f (inr h) = inr h
 
       near_from : (own : Option Polynomial) (s : Signs) (n : ℕ) (f : Polynomial) → IsPolynomial f → degree_in x f ≡ n → IsFree y (near x own k n f s) → From f
       near_from own s zero f canonical degree m = inl (other_of f canonical (omega (arith, degree)) m)
       near_from own s (suc n) f canonical degree m =
-          let less : degree_in x (derivative x f) ≡ n = (let d = degree_of_slope x f canonical in omega (arith, d, degree)) in
+          let less : degree_in x (derivative x f) ≡ n = (let d = degree_of_derivative x f canonical in omega (arith, d, degree)) in
           in_two (at_root_from f canonical own (strict s))
           (in_two (at_root_from f canonical own equal)
-          (λ h. of_slope f (near_from own s n (derivative x f) (IsPolynomial-derivative x f canonical) less h))) m
+          (λ h. of_derivative f (near_from own s n (derivative x f) (IsPolynomial-derivative x f canonical) less h))) m
 
     -- ---- at a test point
 

@@ -1,4 +1,4 @@
-pub mod Slope
+pub mod Derivatives
 pub mod ProperSigns
 pub mod Made
 pub mod Sizes

@@ -2,11 +2,9 @@
 //! Knows nothing of candidates, guards and nodes, nor of how a formula is simplified.
 #![tactic(auto)]
 
-mod atom;
 mod below;
 mod connective;
 mod formula;
-mod near;
 mod root;
 mod signs;
 mod stop;

@@ -7,16 +7,16 @@ use Rattle.qe_root.specs.Atoms.{atoms_of}
 use Rattle.qe_subst.specs.Canonical.{AreCanonical}
 use Rattle.qe_subst.specs.Stop.{after, first_limit}
 use Rattle.qe_subst.specs.Substituted.{substituted_each}
-use Rattle.qe_subst.proofs.formula.+substituted.Given as goal
+use Rattle.qe_subst.proofs.formula.TestPoint.+substituted.Given as goal
 
 abbrev pub invariant-each_substituted-loop-form : goal.invariant-each_substituted-loop-form
 invariant-each_substituted-loop-form l = record {
-  degree : degree_of_some l.x.0 (trees (drop l.form-index l.form-items)) ≤ 2;
+  degree : degree_of_some l.self.x.0 (trees (drop l.form-index l.form-items)) ≤ 2;
   plain : ArePlainWith (λ a. IsProper a.signs) (trees (drop l.form-index l.form-items));
-  limit : first_limit l.x.0 l.point (option_copied l.own) l.number (atoms_of (trees (drop l.form-index l.form-items)))
-      ≡ first_limit l.x.0 l.point (option_copied l.own) l.initial.number (atoms_of (trees l.forms));
+  limit : first_limit l.self.x.0 l.self.point.now (option_copied l.self.own) l.number (atoms_of (trees (drop l.form-index l.form-items)))
+      ≡ first_limit l.self.x.0 l.self.point.now (option_copied l.self.own) l.initial.number (atoms_of (trees l.forms));
   number : after l.number (atoms_of (trees (drop l.form-index l.form-items))) ≡ after l.initial.number (atoms_of (trees l.forms));
-  made : followed l.made (substituted_each l.x.0 l.point (option_copied l.own) (trees (drop l.form-index l.form-items)))
-      ≡ substituted_each l.x.0 l.point (option_copied l.own) (trees l.forms);
+  made : followed l.made (substituted_each l.self.x.0 l.self.point.now (option_copied l.self.own) (trees (drop l.form-index l.form-items)))
+      ≡ substituted_each l.self.x.0 l.self.point.now (option_copied l.self.own) (trees l.forms);
   canonical : AreCanonical (trees (drop l.form-index l.form-items)) → AreCanonical (trees l.forms);
 }

@@ -79,10 +79,10 @@ is_gone c other (suc e) = not_tested (c *ℤ pos (suc e)) (λ gone. product_posi
 
 -- ---- the degree
 
-pub degree_of_slope : (x : ℕ) (f : Polynomial) → IsPolynomial f → degree_in x (derivative x f) ≡ degree_in x f - 1
-degree_of_slope x [] canonical = refl
-degree_of_slope x (t ∷ ts) canonical =
-    let rest : degree_in x (derivative x ts) ≡ degree_in x ts - 1 = degree_of_slope x ts canonical.3 in
+pub degree_of_derivative : (x : ℕ) (f : Polynomial) → IsPolynomial f → degree_in x (derivative x f) ≡ degree_in x f - 1
+degree_of_derivative x [] canonical = refl
+degree_of_derivative x (t ∷ ts) canonical =
+    let rest : degree_in x (derivative x ts) ≡ degree_in x ts - 1 = degree_of_derivative x ts canonical.3 in
     ap (λ b. degree_in x (cond b (derivative x ts) ((lowered x t.0, t.1 *ℤ pos (exponent_of x t.0)) ∷ derivative x ts))) (is_gone t.1 canonical.0 (exponent_of x t.0))
     ∙ elim (eqb (exponent_of x t.0) 0) as (λ b. eqb (exponent_of x t.0) 0 ≡ b → degree_in x (cond b (derivative x ts) ((lowered x t.0, t.1 *ℤ pos (exponent_of x t.0)) ∷ derivative x ts))
     ≡ max (exponent_of x t.0) (degree_in x ts) - 1) [
@@ -96,8 +96,8 @@ degree_of_slope x (t ∷ ts) canonical =
     some : (i j : ℕ) → max (i - 1) (j - 1) ≡ max i j - 1
     some i j = omega arith
 
-pub slope_below : (x : ℕ) (f : Polynomial) → IsPolynomial f → 0 < degree_in x f → suc (degree_in x (derivative x f)) ≡ degree_in x f
-slope_below x f canonical positive = ap suc (degree_of_slope x f canonical) ∙ back (degree_in x f) positive
+pub degree_over_derivative : (x : ℕ) (f : Polynomial) → IsPolynomial f → 0 < degree_in x f → suc (degree_in x (derivative x f)) ≡ degree_in x f
+degree_over_derivative x f canonical positive = ap suc (degree_of_derivative x f canonical) ∙ back (degree_in x f) positive
   where
     back : (i : ℕ) → 0 < i → suc (i - 1) ≡ i
     back i more = omega arith
@@ -105,10 +105,10 @@ slope_below x f canonical positive = ap suc (degree_of_slope x f canonical) ∙ 
 -- ---- the coefficients
 
 -- the coefficient of x^k is that of x^(k+1) times k+1
-pub coefficient_of_slope : (x k : ℕ) (f : Polynomial) → IsPolynomial f → coefficient_in x k (derivative x f) ≡ scaled (pos (suc k)) (coefficient_in x (suc k) f)
-coefficient_of_slope x k [] canonical = refl
-coefficient_of_slope x k (t ∷ ts) canonical =
-    let again : coefficient_in x k (derivative x ts) ≡ scaled (pos (suc k)) (coefficient_in x (suc k) ts) = coefficient_of_slope x k ts canonical.3 in
+pub coefficient_of_derivative : (x k : ℕ) (f : Polynomial) → IsPolynomial f → coefficient_in x k (derivative x f) ≡ scaled (pos (suc k)) (coefficient_in x (suc k) f)
+coefficient_of_derivative x k [] canonical = refl
+coefficient_of_derivative x k (t ∷ ts) canonical =
+    let again : coefficient_in x k (derivative x ts) ≡ scaled (pos (suc k)) (coefficient_in x (suc k) ts) = coefficient_of_derivative x k ts canonical.3 in
     ap (λ b. coefficient_in x k (cond b (derivative x ts) ((lowered x t.0, t.1 *ℤ pos (exponent_of x t.0)) ∷ derivative x ts))) (is_gone t.1 canonical.0 (exponent_of x t.0))
     ∙ elim (eqb (exponent_of x t.0) 0) as (λ b. eqb (exponent_of x t.0) 0 ≡ b → coefficient_in x k (cond b (derivative x ts) ((lowered x t.0, t.1 *ℤ pos (exponent_of x t.0)) ∷ derivative x ts))
     ≡ scaled (pos (suc k)) (cond (eqb (exponent_of x t.0) (suc k)) ((without x t.0, t.1) ∷ coefficient_in x (suc k) ts) (coefficient_in x (suc k) ts))) [
