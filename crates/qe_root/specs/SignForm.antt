@@ -36,6 +36,9 @@ at_least = record { minus = false; zero = true; plus = true }
 abbrev pub more : Signs
 more = record { minus = false; zero = false; plus = true }
 
+abbrev pub is_even : Signs → Bool
+is_even signs = cond signs.minus signs.plus (cond signs.plus false true)
+
 -- ---- the shapes
 
 -- A + B*sqrt(r) = 0: A and B have no common sign, and A^2 = B^2*r
@@ -60,12 +63,15 @@ zero_shape zero e n = cond zero (equal_shape e n) (not_equal_shape e n)
 abbrev pub side_shape : {X : Type 0} → (zero : Bool) → (a b n : X) → Shape X
 side_shape zero a b n = cond zero (at_most_shape a b n) (less_shape a b n)
 
+-- X, or its opposite where plus is in the set
+abbrev pub facing : {X : Type 0} → (opposite : X → X) → Signs → X → X
+facing opposite signs x = cond signs.plus (opposite x) x
+
 -- for each set of signs; `>` and `>=` are `<` and `<=` of the opposites
 abbrev pub sign_shape : {X : Type 0} → (opposite : X → X) → Signs → (a b e n : X) → Shape X
 sign_shape opposite signs a b e n =
-    cond signs.minus
-    (cond signs.plus (zero_shape signs.zero e n) (side_shape signs.zero a b n))
-    (cond signs.plus (side_shape signs.zero (opposite a) (opposite b) n) (zero_shape signs.zero e n))
+    cond (is_even signs) (zero_shape signs.zero e n)
+    (side_shape signs.zero (facing opposite signs a) (facing opposite signs b) n)
 
 -- ---- the formula
 
@@ -84,14 +90,12 @@ abbrev pub norm_limit : (a b r : Polynomial) → Option PolyLimit
 norm_limit a b r = first (product_limit a a ∷ triple_limit b b r ∷ sum_limit Sub (product a a) (triple b b r) ∷ [])
 
 -- A*B is needed for `=` and `<>`, and comes first there
-abbrev pub zero_form_limit : (a b r : Polynomial) → Option PolyLimit
-zero_form_limit a b r = first (product_limit a b ∷ norm_limit a b r ∷ [])
+abbrev pub two_sided_limit : (a b r : Polynomial) → Option PolyLimit
+two_sided_limit a b r = first (product_limit a b ∷ norm_limit a b r ∷ [])
 
 abbrev pub sign_limit : (a b r : Polynomial) → Signs → Option PolyLimit
-sign_limit a b r signs = cond (is_zero b) None
-    (cond signs.minus
-    (cond signs.plus (zero_form_limit a b r) (norm_limit a b r))
-    (cond signs.plus (norm_limit a b r) (zero_form_limit a b r)))
+sign_limit a b r signs =
+    cond (is_zero b) None (cond (is_even signs) (two_sided_limit a b r) (norm_limit a b r))
 
 -- ---- the meaning
 

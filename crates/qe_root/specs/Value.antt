@@ -49,8 +49,8 @@ abbrev pub square_limit : RootPoint → Option PolyLimit
 square_limit k = first (product_limit k.p k.p ∷ triple_limit k.q k.q k.r ∷ sum_limit Add (product k.p k.p) (triple k.q k.q k.r) ∷ [])
 
 -- of alpha*(p^2 + q^2*r)
-abbrev pub square_term_limit : Polynomial → RootPoint → Option PolyLimit
-square_term_limit alpha k = cond (is_zero alpha) None (first (square_limit k ∷ product_limit alpha (square k) ∷ []))
+abbrev pub quadratic_term_limit : Polynomial → RootPoint → Option PolyLimit
+quadratic_term_limit alpha k = cond (is_zero alpha) None (first (square_limit k ∷ product_limit alpha (square k) ∷ []))
 
 -- of 2*alpha*p*q
 abbrev pub double_term_limit : Polynomial → RootPoint → Option PolyLimit
@@ -59,7 +59,7 @@ double_term_limit alpha k = cond (is_zero alpha) None (first (triple_limit alpha
 -- of A: its three terms come first, and then the two sums
 abbrev pub plain_part_limit : (alpha beta gamma : Polynomial) → RootPoint → Option PolyLimit
 plain_part_limit alpha beta gamma k = first (
-    square_term_limit alpha k ∷ triple_limit beta k.p k.s ∷ product_limit k.s k.s ∷ product_limit gamma (product k.s k.s)
+    quadratic_term_limit alpha k ∷ triple_limit beta k.p k.s ∷ product_limit k.s k.s ∷ product_limit gamma (product k.s k.s)
     ∷ sum_limit Add (product alpha (square k)) (triple beta k.p k.s)
     ∷ sum_limit Add (sum (product alpha (square k)) (triple beta k.p k.s)) (product gamma (product k.s k.s)) ∷ [])
 

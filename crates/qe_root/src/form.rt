@@ -41,11 +41,11 @@ fn either(alloc: Global, left: Form, right: Form) -> Result<Form, OutOfMemory>
     Ok(Form::Or(parts))
 }
 
-/// The form of `=`, or that of `<>`, from `A*B` and `N`.
-fn zero_form(alloc: Global, zero: bool, product: Poly, norm: Poly) -> Result<Form, OutOfMemory>
-    ensures { IfOk result (λ f. tree f ≡ shape.formula (meaning.zero_shape zero product norm)) }
+/// The formula for `=`, or that for `<>`, from `A*B` and `N`.
+fn zero_form(alloc: Global, product: Poly, norm: Poly, signs: Signs) -> Result<Form, OutOfMemory>
+    ensures { IfOk result (λ f. tree f ≡ shape.formula (meaning.zero_shape signs.zero product norm)) }
 {
-    if zero {
+    if signs.has_zero() {
         let at_most = atom(product, Signs::of(true, true, false));
         both(alloc, at_most, atom(norm, Signs::of(false, true, false)))
     } else {
@@ -54,7 +54,7 @@ fn zero_form(alloc: Global, zero: bool, product: Poly, norm: Poly) -> Result<For
     }
 }
 
-/// The form of `<=`, from `A`, `B` and `N`.
+/// The formula for `<=`, from `A`, `B` and `N`.
 fn at_most_form(alloc: Global, plain: Poly, root: Poly, norm: Poly) -> Result<Form, OutOfMemory>
     ensures { IfOk result (λ f. tree f ≡ shape.formula (meaning.at_most_shape plain root norm)) }
 {
@@ -65,7 +65,7 @@ fn at_most_form(alloc: Global, plain: Poly, root: Poly, norm: Poly) -> Result<Fo
     either(alloc, by_plain, by_root)
 }
 
-/// The form of `<`, from `A`, `B` and `N`.
+/// The formula for `<`, from `A`, `B` and `N`.
 fn less_form(alloc: Global, plain: Poly, root: Poly, norm: Poly) -> Result<Form, OutOfMemory>
     ensures { IfOk result (λ f. tree f ≡ shape.formula (meaning.less_shape plain root norm)) }
 {
@@ -86,58 +86,64 @@ fn norm(alloc: Global, plain: &Poly, root: &Poly, radicand: &Poly) -> Result<Pol
     square.sub(alloc, &root_square)
 }
 
-/// A copy of the polynomial, or its negative where the signs are mirrored.
-fn turned(alloc: Global, poly: &Poly, mirrored: bool) -> Result<Poly, OutOfMemory>
-    ensures { IfOk result (λ p. p ≡ cond mirrored (spec.negative poly.now) poly.now) }
+/// The polynomial, or its negative where plus is in the set.
+fn facing(alloc: Global, poly: &Poly, signs: Signs) -> Result<Poly, OutOfMemory>
+    ensures { IfOk result (λ p. p ≡ meaning.facing spec.negative signs poly.now) }
 {
-    if mirrored {
+    if signs.has_plus() {
         poly.neg(alloc)
     } else {
         poly.copy(alloc)
     }
 }
 
-/// The form of `=`, or that of `<>`, by `A*B` first and then `N`.
-fn balanced_form(
+/// The formula for `=`, or that for `<>`, by `A*B` first and then `N`.
+fn two_sided_form(
     alloc: Global,
     plain: &Poly,
     root: &Poly,
     radicand: &Poly,
-    zero: bool,
+    signs: Signs,
 ) -> Result<Form, PolyStop>
-    ensures { IsOutcome (meaning.zero_form_limit plain.now root.now radicand.now)
-        (λ f. tree f ≡ shape.formula (meaning.zero_shape zero (spec.product plain.now root.now) (meaning.norm plain.now root.now radicand.now))) result }
+    ensures { IsOutcome (meaning.two_sided_limit plain.now root.now radicand.now)
+        (λ f. tree f ≡ shape.formula (meaning.zero_shape signs.zero (spec.product plain.now root.now)
+        (meaning.norm plain.now root.now radicand.now))) result }
 {
     let product = plain.mul(alloc, root)?;
     let norm = norm(alloc, plain, root, radicand)?;
-    Ok(zero_form(alloc, zero, product, norm)?)
+    Ok(zero_form(alloc, product, norm, signs)?)
 }
 
-/// The form of `<=` where zero is allowed and else that of `<`, for `-A` and `-B` where the signs are mirrored.
-fn side_form(
+/// The formula for `<` or `<=`; for `>` and `>=` it is that with `-A` and `-B`.
+fn one_sided_form(
     alloc: Global,
     plain: &Poly,
     root: &Poly,
     radicand: &Poly,
-    zero: bool,
-    mirrored: bool,
+    signs: Signs,
 ) -> Result<Form, PolyStop>
     ensures { IsOutcome (meaning.norm_limit plain.now root.now radicand.now)
-        (λ f. tree f ≡ shape.formula (meaning.side_shape zero (cond mirrored (spec.negative plain.now) plain.now)
-        (cond mirrored (spec.negative root.now) root.now) (meaning.norm plain.now root.now radicand.now))) result }
+        (λ f. tree f ≡ shape.formula (meaning.side_shape signs.zero (meaning.facing spec.negative signs plain.now)
+        (meaning.facing spec.negative signs root.now) (meaning.norm plain.now root.now radicand.now))) result }
 {
     let norm = norm(alloc, plain, root, radicand)?;
-    let plain = turned(alloc, plain, mirrored)?;
-    let root = turned(alloc, root, mirrored)?;
-    if zero {
+    let plain = facing(alloc, plain, signs)?;
+    let root = facing(alloc, root, signs)?;
+    if signs.has_zero() {
         Ok(at_most_form(alloc, plain, root, norm)?)
     } else {
         Ok(less_form(alloc, plain, root, norm)?)
     }
 }
 
-/// The formula that says of `a + b*sqrt(r)`, wherever `r` is not negative, that its sign is in the set; after Weispfenning (1997).
-/// The set is neither empty nor full. Where `b` is 0 it is the atom of `a`. Else, with `N = a^2 - b^2*r`, it is
+fn is_even(signs: Signs) -> bool
+    ensures { result ≡ meaning.is_even signs }
+{
+    signs.has_minus() == signs.has_plus()
+}
+
+/// The formula stating that the sign of `a + b*sqrt(r)` is in the set, wherever `r` is not negative; after Weispfenning (1997). The
+/// set is neither empty nor full. Where `b` is 0 the formula is the atom of `a`. Else, with `N = a^2 - b^2*r`, it is
 ///
 /// - for `=`: `a*b <= 0 and N = 0`, and for `<>` the opposite;
 /// - for `<=`: `[a <= 0 and N >= 0] or [b <= 0 and N <= 0]`;
@@ -161,9 +167,9 @@ pub fn sign_form(
     if is_zero(b) {
         return Ok(atom(a.copy(alloc)?, signs));
     }
-    match signs.bits() {
-        2 | 5 => balanced_form(alloc, a, b, r, signs.has_zero()),
-        1 | 3 => side_form(alloc, a, b, r, signs.has_zero(), false),
-        _ => side_form(alloc, a, b, r, signs.has_zero(), true),
+    if is_even(signs) {
+        two_sided_form(alloc, a, b, r, signs)
+    } else {
+        one_sided_form(alloc, a, b, r, signs)
     }
 }

@@ -44,8 +44,8 @@ fn square(alloc: Global, point: &RootPoint) -> Result<Poly, PolyStop>
 }
 
 /// `alpha*(p^2 + q^2*r)`; nothing is computed where `alpha` is 0.
-fn square_term(alloc: Global, alpha: &Poly, point: &RootPoint) -> Result<Poly, PolyStop>
-    ensures { IsAnswer (meaning.square_term_limit alpha.now point.now) (spec.product alpha.now (meaning.square point.now)) result }
+fn quadratic_term(alloc: Global, alpha: &Poly, point: &RootPoint) -> Result<Poly, PolyStop>
+    ensures { IsAnswer (meaning.quadratic_term_limit alpha.now point.now) (spec.product alpha.now (meaning.square point.now)) result }
 {
     if is_zero(alpha) {
         return Ok(Poly::constant(alloc, Coef::zero())?);
@@ -73,11 +73,13 @@ fn plain_part(
 ) -> Result<Poly, PolyStop>
     ensures { IsAnswer (meaning.plain_part_limit alpha.now beta.now gamma.now point.now) (meaning.plain_part alpha.now beta.now gamma.now point.now) result }
 {
-    let square_term = square_term(alloc, alpha, point)?;
+    let quadratic_term = quadratic_term(alloc, alpha, point)?;
     let linear_term = triple(alloc, beta, &point.p, &point.s)?;
     let divisor = point.s.mul(alloc, &point.s)?;
-    let free_term = gamma.mul(alloc, &divisor)?;
-    square_term.add(alloc, &linear_term)?.add(alloc, &free_term)
+    let constant_term = gamma.mul(alloc, &divisor)?;
+    quadratic_term
+        .add(alloc, &linear_term)?
+        .add(alloc, &constant_term)
 }
 
 /// `B = 2*alpha*p*q + beta*q*s`.
