@@ -28,7 +28,7 @@ use Rattle.qe_points.specs.declared.candidate.Which.TheVariants.{Linear, Upper, 
 use Rattle.qe_points.specs.declared.candidate.Candidate.{Candidate}
 use Rattle.qe_points.specs.declared.candidate.Candidate.TheVariants.{Root, MinusInf}
 use Rattle.qe_points.specs.Candidates.{Numbered, gives, numbered, distinct, roots_of, roots, candidates}
-use Rattle.qe_points.specs.Guard.{guard, turned, root, point_of}
+use Rattle.qe_points.specs.Guard.{guard, turned, root_of_kind, point_of}
 use Rattle.qe_points.specs.Guarded.{Fits, IsOf}
 use Rattle.qe_points.specs.Complete.{HoldsAtCandidate, HoldsAtOne, IsComplete}
 use Rattle.qe_points.proofs.Members.{IsIn, in_left, in_right, of_append, in_flat, of_flat, of_map, all_in, of_all, in_distinct, of_distinct}
@@ -259,7 +259,7 @@ module _ (x : ℕ) (f : Formula) (p : Point) (valid : IsPoint p) where
             Root g.0.0 g.0.1 which false,
             at_plain g.0 which g.1 (subst (λ q. Fits x q which) (sym g.2) fits),
             guard_true p valid x g.0.0 which r h,
-            to_value p valid (turned (root x g.0.0 which)) r (turned_value p valid (root x g.0.0 which) r (to_root p valid x g.0.0 which r h)),
+            to_value p valid (turned (root_of_kind x g.0.0 which)) r (turned_value p valid (root_of_kind x g.0.0 which) r (to_root p valid x g.0.0 which r h)),
           )
       by false e =
           let g = in_group false a i (positive a.poly which fits) (ap not e) in
@@ -267,7 +267,7 @@ module _ (x : ℕ) (f : Formula) (p : Point) (valid : IsPoint p) where
             Root g.0.0 g.0.1 which true,
             at_plus g.0 which g.1 (subst (λ q. Fits x q which) (sym g.2) fits),
             guard_true p valid x g.0.0 which r h,
-            to_value p valid (turned (root x g.0.0 which)) r (turned_value p valid (root x g.0.0 which) r (to_root p valid x g.0.0 which r h)),
+            to_value p valid (turned (root_of_kind x g.0.0 which)) r (turned_value p valid (root_of_kind x g.0.0 which) r (to_root p valid x g.0.0 which r h)),
           )
 
   at_each_root : (a : atom.Atom) → IsIn a (atoms f) → degree_in x a.poly ≤ 2 → (r : ValidNumber) → IsRootOf x p valid a.poly r → IsPlaceOfOne x (candidates x f) f p (root_place a.signs.zero r)

@@ -26,7 +26,7 @@ use Rattle.qe_root.specs.SignForm.{equal, not_equal, at_least}
 use Rattle.qe_root.specs.Value.{IsValue}
 use Rattle.qe_points.specs.declared.candidate.Which.{Which}
 use Rattle.qe_points.specs.declared.candidate.Which.TheVariants.{Linear, Upper, Lower}
-use Rattle.qe_points.specs.Guard.{atomic, both, discriminant_by, discriminant, linear_guard, square_guard, root_guard, is_negative, turned, square_root, root}
+use Rattle.qe_points.specs.Guard.{atomic, both, discriminant_by, discriminant, linear_guard, quadratic_guard, root_guard, is_negative, turned, quadratic_root, root_of_kind}
 use Rattle.qe_points.specs.Guarded.{Fits}
 use Rattle.qe_points.proofs.Occurring.{coefficient_past}
 use Rattle.qe_points.proofs.OnLine.{sign_with}
@@ -177,27 +177,27 @@ module _ (p : Point) (valid : IsPoint p) where
     abbrev pub IsRootAt : Which → ValidNumber → Type 0
     IsRootAt which v = IsRootOfKind valid_operations valid_sign (kind_of which) A B C v
 
-    to_square : (q : ValidNumber) (g : Polynomial) (v : ValidNumber) → ValidEqual q (val g)
-        → IsRootValue valid_operations valid_sign (neg B) q (line.discriminant valid_operations A B C) (mul (of_int valid_operations (pos 2)) A) v → IsValidRoot (square_root x f g) v
-    to_square q g v same h = value_same numbers (neg B) q (line.discriminant valid_operations A B C) (mul (of_int valid_operations (pos 2)) A) v
+    to_quadratic : (q : ValidNumber) (g : Polynomial) (v : ValidNumber) → ValidEqual q (val g)
+        → IsRootValue valid_operations valid_sign (neg B) q (line.discriminant valid_operations A B C) (mul (of_int valid_operations (pos 2)) A) v → IsValidRoot (quadratic_root x f g) v
+    to_quadratic q g v same h = value_same numbers (neg B) q (line.discriminant valid_operations A B C) (mul (of_int valid_operations (pos 2)) A) v
         (val (negative (coefficient_in x 1 f))) (val g) (val (discriminant x f)) (val (scaled (pos 2) (coefficient_in x 2 f))) v
         (R.back (val (negative (coefficient_in x 1 f))) (neg B) (negated_is (coefficient_in x 1 f))) same
         (R.back (val (discriminant x f)) (line.discriminant valid_operations A B C) (discriminant_is (coefficient_in x 2 f) (coefficient_in x 1 f) (coefficient_in x 0 f)))
         (R.back (val (scaled (pos 2) (coefficient_in x 2 f))) (mul (of_int valid_operations (pos 2)) A) (double_is (coefficient_in x 2 f))) (R.same v) h
 
-    of_square : (q : ValidNumber) (g : Polynomial) (v : ValidNumber) → ValidEqual (val g) q
-        → IsValidRoot (square_root x f g) v → IsRootValue valid_operations valid_sign (neg B) q (line.discriminant valid_operations A B C) (mul (of_int valid_operations (pos 2)) A) v
-    of_square q g v same h = value_same numbers
+    of_quadratic : (q : ValidNumber) (g : Polynomial) (v : ValidNumber) → ValidEqual (val g) q
+        → IsValidRoot (quadratic_root x f g) v → IsRootValue valid_operations valid_sign (neg B) q (line.discriminant valid_operations A B C) (mul (of_int valid_operations (pos 2)) A) v
+    of_quadratic q g v same h = value_same numbers
         (val (negative (coefficient_in x 1 f))) (val g) (val (discriminant x f)) (val (scaled (pos 2) (coefficient_in x 2 f))) v
         (neg B) q (line.discriminant valid_operations A B C) (mul (of_int valid_operations (pos 2)) A) v
         (negated_is (coefficient_in x 1 f)) same (discriminant_is (coefficient_in x 2 f) (coefficient_in x 1 f) (coefficient_in x 0 f)) (double_is (coefficient_in x 2 f)) (R.same v) h
 
     -- so it is a value of the candidate's root
-    pub to_root : (which : Which) (v : ValidNumber) → IsRootAt which v → IsValidRoot (root x f which) v
+    pub to_root : (which : Which) (v : ValidNumber) → IsRootAt which v → IsValidRoot (root_of_kind x f which) v
     to_root Linear v h = value_same numbers (neg C) zero zero B v (val (negative (coefficient_in x 0 f))) (val []) (val []) B v
         (R.back (val (negative (coefficient_in x 0 f))) (neg C) (negated_is (coefficient_in x 0 f))) refl refl (R.same B) (R.same v) h.1
-    to_root Upper v h = to_square one (constant (pos 1)) v refl h
-    to_root Lower v h = to_square (neg one) (constant (negsuc 0)) v refl h
+    to_root Upper v h = to_quadratic one (constant (pos 1)) v refl h
+    to_root Lower v h = to_quadratic (neg one) (constant (negsuc 0)) v refl h
 
     -- where a is zero if the kind is linear
     abbrev pub IsFlat : Which → Type 0
@@ -206,14 +206,14 @@ module _ (p : Point) (valid : IsPoint p) where
     IsFlat Lower = Unit {0}
 
     -- and the other way
-    pub of_root : (which : Which) (v : ValidNumber) → IsFlat which → IsValidRoot (root x f which) v → IsRootAt which v
+    pub of_root : (which : Which) (v : ValidNumber) → IsFlat which → IsValidRoot (root_of_kind x f which) v → IsRootAt which v
     of_root Linear v flat h = (
       flat,
       value_same numbers (val (negative (coefficient_in x 0 f))) (val []) (val []) B v (neg C) zero zero B v
           (negated_is (coefficient_in x 0 f)) refl refl (R.same B) (R.same v) h,
     )
-    of_root Upper v flat h = of_square one (constant (pos 1)) v refl h
-    of_root Lower v flat h = of_square (neg one) (constant (negsuc 0)) v refl h
+    of_root Upper v flat h = of_quadratic one (constant (pos 1)) v refl h
+    of_root Lower v flat h = of_quadratic (neg one) (constant (negsuc 0)) v refl h
 
     -- ---- the guard
 
@@ -257,12 +257,12 @@ module _ (p : Point) (valid : IsPoint p) where
     pub guard_true : (which : Which) (v : ValidNumber) → IsRootAt which v → Is (root_guard x f which) true p
     guard_true Linear v h = by (eqb (degree_in x f) 2)
       where
-        slope : has_sign not_equal (valid_sign B) ≡ true
-        slope = of_not_equal_sign (valid_sign B) h.1.divisor
+        leading : has_sign not_equal (valid_sign B) ≡ true
+        leading = of_not_equal_sign (valid_sign B) h.1.divisor
 
         by : (b : Bool) → Is (cond b (both (atomic (coefficient_in x 2 f) equal) (atomic (coefficient_in x 1 f) not_equal)) (atomic (coefficient_in x 1 f) not_equal)) true p
-        by true = (of_equal_sign (valid_sign A) h.0, (slope, tt))
-        by false = slope
+        by true = (of_equal_sign (valid_sign A) h.0, (leading, tt))
+        by false = leading
     guard_true Upper v h =
         (of_not_equal_sign (valid_sign A) (half A h.divisor), (of_at_least_sign (valid_sign (val (discriminant x f))) (subst (λ s. IsNotMinus s) (sym radicand_is) h.radicand), tt))
     guard_true Lower v h =
@@ -281,8 +281,8 @@ module _ (p : Point) (valid : IsPoint p) where
         by true test h = (equal_sign (valid_sign A) h.0, not_equal_sign (valid_sign B) h.1.0)
         by false test h = (no_coefficient 2 (below_two (degree_in x f) low test), not_equal_sign (valid_sign B) h)
 
-    square_says : Is (square_guard x f) true p → IsNotZero (valid_sign A) × IsNotMinus (valid_sign (line.discriminant valid_operations A B C))
-    square_says g = (not_equal_sign (valid_sign A) g.0, subst (λ s. IsNotMinus s) radicand_is (at_least_sign (valid_sign (val (discriminant x f))) g.1.0))
+    quadratic_says : Is (quadratic_guard x f) true p → IsNotZero (valid_sign A) × IsNotMinus (valid_sign (line.discriminant valid_operations A B C))
+    quadratic_says g = (not_equal_sign (valid_sign A) g.0, subst (λ s. IsNotMinus s) radicand_is (at_least_sign (valid_sign (val (discriminant x f))) g.1.0))
 
     at_most_two : (which : Which) → Fits x f which → degree_in x f ≤ 2
     at_most_two Linear fits = fits.1
@@ -299,8 +299,8 @@ module _ (p : Point) (valid : IsPoint p) where
     root_exists Linear fits g =
         let says = linear_says fits.1 g in
         let found = has_value numbers (neg C) zero zero B says.1 tt in (found.0, (says.0, found.1))
-    root_exists Upper fits g = let says = square_says g in has_value numbers (neg B) one (line.discriminant valid_operations A B C) (mul (of_int valid_operations (pos 2)) A) (double A says.0) says.1
-    root_exists Lower fits g = let says = square_says g in has_value numbers (neg B) (neg one) (line.discriminant valid_operations A B C) (mul (of_int valid_operations (pos 2)) A) (double A says.0) says.1
+    root_exists Upper fits g = let says = quadratic_says g in has_value numbers (neg B) one (line.discriminant valid_operations A B C) (mul (of_int valid_operations (pos 2)) A) (double A says.0) says.1
+    root_exists Lower fits g = let says = quadratic_says g in has_value numbers (neg B) (neg one) (line.discriminant valid_operations A B C) (mul (of_int valid_operations (pos 2)) A) (double A says.0) says.1
 
     -- the polynomial is zero at its roots
     pub zero_there : (which : Which) (v : ValidNumber) → IsPolynomial f → degree_in x f ≤ 2 → IsRootAt which v → sign_of (value f ((x, v.0) ∷ p)) ≡ Zero

@@ -41,14 +41,14 @@ linear_guard x f =
     (atomic (coefficient_in x 1 f) not_equal)
 
 -- a <> 0 and d >= 0
-abbrev pub square_guard : ℕ → Polynomial → Formula
-square_guard x f = both (atomic (coefficient_in x 2 f) not_equal) (atomic (discriminant x f) at_least)
+abbrev pub quadratic_guard : ℕ → Polynomial → Formula
+quadratic_guard x f = both (atomic (coefficient_in x 2 f) not_equal) (atomic (discriminant x f) at_least)
 
 -- where the root of this kind is one
 abbrev pub root_guard : ℕ → Polynomial → Which → Formula
 root_guard x f Linear = linear_guard x f
-root_guard x f Upper = square_guard x f
-root_guard x f Lower = square_guard x f
+root_guard x f Upper = quadratic_guard x f
+root_guard x f Lower = quadratic_guard x f
 
 abbrev pub guard : ℕ → Candidate → Formula
 guard x (Root f n which plus) = root_guard x f which
@@ -70,39 +70,39 @@ abbrev pub linear_root : ℕ → Polynomial → RootPoint
 linear_root x f = record { p = negative (coefficient_in x 0 f); q = []; r = []; s = coefficient_in x 1 f }
 
 -- (-b + q*sqrt(d))/(2*a)
-abbrev pub square_root : ℕ → Polynomial → Polynomial → RootPoint
-square_root x f q = record { p = negative (coefficient_in x 1 f); q = q; r = discriminant x f; s = scaled (pos 2) (coefficient_in x 2 f) }
+abbrev pub quadratic_root : ℕ → Polynomial → Polynomial → RootPoint
+quadratic_root x f q = record { p = negative (coefficient_in x 1 f); q = q; r = discriminant x f; s = scaled (pos 2) (coefficient_in x 2 f) }
 
 -- the root of this kind: with the square root added, or taken away
-abbrev pub root : ℕ → Polynomial → Which → RootPoint
-root x f Linear = linear_root x f
-root x f Upper = square_root x f (constant (pos 1))
-root x f Lower = square_root x f (constant (negsuc 0))
+abbrev pub root_of_kind : ℕ → Polynomial → Which → RootPoint
+root_of_kind x f Linear = linear_root x f
+root_of_kind x f Upper = quadratic_root x f (constant (pos 1))
+root_of_kind x f Lower = quadratic_root x f (constant (negsuc 0))
 
 -- the root itself, or just above it
-abbrev pub at_root : Bool → RootPoint → Point
-at_root plus k = cond plus (point.RootPlus k) (point.Root k)
+abbrev pub at_or_above : Bool → RootPoint → Point
+at_or_above plus k = cond plus (point.RootPlus k) (point.Root k)
 
 abbrev pub point_of : ℕ → Candidate → Point
-point_of x (Root f n which plus) = at_root plus (turned (root x f which))
+point_of x (Root f n which plus) = at_or_above plus (turned (root_of_kind x f which))
 point_of x MinusInf = point.MinusInf
 
 -- ---- the first limit, in the order b*b, a*c, 4*(a*c), d, 2*a
 
-abbrev pub square_limit_by : (a b c : Polynomial) → Option PolyLimit
-square_limit_by a b c =
+abbrev pub quadratic_limit_by : (a b c : Polynomial) → Option PolyLimit
+quadratic_limit_by a b c =
     first (
     product_limit b b ∷ product_limit a c ∷ scale_limit (pos 4) (product a c) ∷ sum_limit Sub (product b b) (scaled (pos 4) (product a c))
     ∷ scale_limit (pos 2) a ∷ [])
 
-abbrev pub square_limit : ℕ → Polynomial → Option PolyLimit
-square_limit x f = square_limit_by (coefficient_in x 2 f) (coefficient_in x 1 f) (coefficient_in x 0 f)
+abbrev pub quadratic_limit : ℕ → Polynomial → Option PolyLimit
+quadratic_limit x f = quadratic_limit_by (coefficient_in x 2 f) (coefficient_in x 1 f) (coefficient_in x 0 f)
 
 -- of degree one nothing is multiplied
 abbrev pub root_limit : ℕ → Polynomial → Which → Option PolyLimit
 root_limit x f Linear = None
-root_limit x f Upper = square_limit x f
-root_limit x f Lower = square_limit x f
+root_limit x f Upper = quadratic_limit x f
+root_limit x f Lower = quadratic_limit x f
 
 abbrev pub limit : ℕ → Candidate → Option PolyLimit
 limit x (Root f n which plus) = root_limit x f which

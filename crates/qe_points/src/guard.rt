@@ -29,7 +29,7 @@ pub struct GuardedPoint {
     pub point: Point,
 }
 
-/// A root with its guard, neither simplified nor turned round.
+/// A root with its guard, before the guard is simplified and the divisor turned.
 #[derive(Drop)]
 struct RootWithGuard {
     guard: Form,
@@ -62,17 +62,17 @@ fn both(alloc: Global, left: Form, right: Form) -> Result<Form, OutOfMemory>
     Ok(Form::And(parts))
 }
 
-/// The guard `b <> 0`, and for degree two `a = 0` besides.
-fn linear_guard(alloc: Global, poly: &Poly, x: Var, slope: Poly) -> Result<Form, OutOfMemory>
-    requires { slope ≡ coefficient_in x.0 1 poly.now }
+/// The guard `b <> 0`, and for degree two `a = 0 and b <> 0`.
+fn linear_guard(alloc: Global, poly: &Poly, x: Var, b: Poly) -> Result<Form, OutOfMemory>
+    requires { b ≡ coefficient_in x.0 1 poly.now }
     ensures { IfOk result (λ f. tree f ≡ meaning.linear_guard x.0 poly.now) }
 {
-    let guard = atom(slope, Signs::of(true, false, true));
+    let guard = atom(b, Signs::of(true, false, true));
     if poly.degree_in(x) != 2 {
         return Ok(guard);
     }
-    let square = poly.coefficient_in(alloc, x, 2)?;
-    both(alloc, atom(square, Signs::of(false, true, false)), guard)
+    let a = poly.coefficient_in(alloc, x, 2)?;
+    both(alloc, atom(a, Signs::of(false, true, false)), guard)
 }
 
 /// The root `-c/b` with its guard.
@@ -80,46 +80,44 @@ fn linear_root(alloc: Global, poly: &Poly, x: Var) -> Result<RootWithGuard, OutO
     ensures exact { IfOk result (IsMade (meaning.linear_guard x.0 poly.now) (meaning.linear_root x.0 poly.now)) }
     ensures canonical { IfOk result (λ _. spec.IsPolynomial poly.now) }
 {
-    let slope = poly.coefficient_in(alloc, x, 1)?;
-    let free = poly.coefficient_in(alloc, x, 0)?;
+    let b = poly.coefficient_in(alloc, x, 1)?;
+    let c = poly.coefficient_in(alloc, x, 0)?;
     let root = RootPoint {
-        p: free.neg(alloc)?,
+        p: c.neg(alloc)?,
         q: Poly::constant(alloc, Coef::zero())?,
         r: Poly::constant(alloc, Coef::zero())?,
-        s: slope.copy(alloc)?,
+        s: b.copy(alloc)?,
     };
-    let guard = linear_guard(alloc, poly, x, slope)?;
+    let guard = linear_guard(alloc, poly, x, b)?;
     Ok(RootWithGuard { guard, root })
 }
 
 /// `d = b^2 - 4*(a*c)`, and `2*a`.
-fn square_parts(alloc: Global, a: &Poly, b: &Poly, c: &Poly) -> Result<(Poly, Poly), PolyStop>
-    ensures { IsOutcome (meaning.square_limit_by a.now b.now c.now) (λ r. (r.0 ≡ meaning.discriminant_by a.now b.now c.now) × (r.1 ≡ scaled (pos 2) a.now)) result }
+fn quadratic_parts(alloc: Global, a: &Poly, b: &Poly, c: &Poly) -> Result<(Poly, Poly), PolyStop>
+    ensures { IsOutcome (meaning.quadratic_limit_by a.now b.now c.now)
+        (λ r. (r.0 ≡ meaning.discriminant_by a.now b.now c.now) × (r.1 ≡ scaled (pos 2) a.now)) result }
 {
     let square = b.mul(alloc, b)?;
-    let product = a.mul(alloc, c)?;
-    let product = product.scale(alloc, number(4))?;
+    let product = a.mul(alloc, c)?.scale(alloc, number(4))?;
     let discriminant = square.sub(alloc, &product)?;
     let divisor = a.scale(alloc, number(2))?;
     Ok((discriminant, divisor))
 }
 
 /// The root `(-b + q*sqrt(d))/(2*a)` with its guard `a <> 0 and d >= 0`.
-fn square_root(alloc: Global, poly: &Poly, x: Var, q: Poly) -> Result<RootWithGuard, PolyStop>
-    ensures exact { IsOutcome (meaning.square_limit x.0 poly.now) (IsMade (meaning.square_guard x.0 poly.now) (meaning.square_root x.0 poly.now q)) result }
+fn quadratic_root(alloc: Global, poly: &Poly, x: Var, q: Poly) -> Result<RootWithGuard, PolyStop>
+    ensures exact { IsOutcome (meaning.quadratic_limit x.0 poly.now)
+        (IsMade (meaning.quadratic_guard x.0 poly.now) (meaning.quadratic_root x.0 poly.now q)) result }
     ensures canonical { IfOk result (λ _. spec.IsPolynomial poly.now) }
 {
-    let square = poly.coefficient_in(alloc, x, 2)?;
-    let slope = poly.coefficient_in(alloc, x, 1)?;
-    let free = poly.coefficient_in(alloc, x, 0)?;
-    let (r, s) = square_parts(alloc, &square, &slope, &free)?;
-    let p = slope.neg(alloc)?;
-    let has_two = atom(square, Signs::of(true, false, true));
-    let guard = both(
-        alloc,
-        has_two,
-        atom(r.copy(alloc)?, Signs::of(false, true, true)),
-    )?;
+    let a = poly.coefficient_in(alloc, x, 2)?;
+    let b = poly.coefficient_in(alloc, x, 1)?;
+    let c = poly.coefficient_in(alloc, x, 0)?;
+    let (r, s) = quadratic_parts(alloc, &a, &b, &c)?;
+    let p = b.neg(alloc)?;
+    let quadratic = atom(a, Signs::of(true, false, true));
+    let real = atom(r.copy(alloc)?, Signs::of(false, true, true));
+    let guard = both(alloc, quadratic, real)?;
     Ok(RootWithGuard {
         guard,
         root: RootPoint { p, q, r, s },
@@ -128,13 +126,13 @@ fn square_root(alloc: Global, poly: &Poly, x: Var, q: Poly) -> Result<RootWithGu
 
 /// The root of the kind with its guard.
 fn root(alloc: Global, poly: &Poly, x: Var, which: Which) -> Result<RootWithGuard, PolyStop>
-    ensures exact { IsOutcome (meaning.root_limit x.0 poly.now which) (IsMade (meaning.root_guard x.0 poly.now which) (meaning.root x.0 poly.now which)) result }
+    ensures exact { IsOutcome (meaning.root_limit x.0 poly.now which) (IsMade (meaning.root_guard x.0 poly.now which) (meaning.root_of_kind x.0 poly.now which)) result }
     ensures canonical { IfOk result (λ _. spec.IsPolynomial poly.now) }
 {
     match which {
         Which::Linear => Ok(linear_root(alloc, poly, x)?),
-        Which::Upper => square_root(alloc, poly, x, Poly::constant(alloc, number(1))?),
-        Which::Lower => square_root(alloc, poly, x, Poly::constant(alloc, number(-1))?),
+        Which::Upper => quadratic_root(alloc, poly, x, Poly::constant(alloc, number(1))?),
+        Which::Lower => quadratic_root(alloc, poly, x, Poly::constant(alloc, number(-1))?),
     }
 }
 
@@ -180,7 +178,7 @@ fn guarded_root(
     found: RootWithGuard,
     plus: bool,
 ) -> Result<Option<GuardedPoint>, OutOfMemory>
-    ensures exact { IfOk result (IsGuardedBy (tree found.guard) (meaning.at_root plus (meaning.turned found.root))) }
+    ensures exact { IfOk result (IsGuardedBy (tree found.guard) (meaning.at_or_above plus (meaning.turned found.root))) }
     ensures kept { IfOk result (λ o. IfSome o (λ g. Keeps (tree found.guard) (tree g.guard))) }
     ensures plain { IfOk result (λ o. IfSome o (λ g. IsPlain (tree found.guard) → IsSimplified (tree g.guard))) }
 {

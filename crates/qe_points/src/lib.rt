@@ -5,12 +5,12 @@
 mod candidate;
 mod choice;
 mod guard;
-mod listed;
+mod candidate_list;
 
 pub use candidate::{Candidate, Which};
 pub use choice::choose;
 pub use guard::{GuardedPoint, guarded};
-pub use listed::candidates;
+pub use candidate_list::candidates;
 pub use qe_form::{Form, Var};
 pub use qe_poly::{Poly, PolyLimit};
 pub use qe_root::{Point, RootPoint, Stage, SubstStop};

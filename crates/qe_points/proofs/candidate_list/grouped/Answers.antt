@@ -2,8 +2,8 @@ use Rattle.std.proofs.Common.{◌∙◌, sym, ap, not, true, false, Bor, arith}
 use Rattle.qe_form.specs.declared.form.Atom as atom
 use Rattle.qe_poly.specs.Polynomial.{IsPolynomial}
 use Rattle.qe_points.proofs.Gathering.{turn_first, turn_given, turn_other, turn_free, turn_end, each_more}
-use Rattle.qe_points.proofs.listed.grouped.Goals.{then-degree_in-gt0+then-has_zero+in_ok-note, then-degree_in-gt0+else-has_zero+in_ok-note-2, else-degree_in-gt0}
-use Rattle.qe_points.proofs.listed.grouped.Goals as goal
+use Rattle.qe_points.proofs.candidate_list.grouped.Goals.{then-degree_in-gt0+then-has_zero+in_ok-note, then-degree_in-gt0+else-has_zero+in_ok-note-2, else-degree_in-gt0}
+use Rattle.qe_points.proofs.candidate_list.grouped.Goals as goal
 
 pub loop-number-init : goal.loop-number-init
 loop-number-init c = record {

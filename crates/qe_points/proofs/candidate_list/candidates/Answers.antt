@@ -5,7 +5,7 @@ use Rattle.qe_root.specs.Atoms.{atoms}
 use Rattle.qe_points.specs.Candidates.{candidates}
 use Rattle.qe_points.proofs.Gathering.{candidates_are}
 use Rattle.qe_points.proofs.Enough.{each_is_of, made_canonical, made_complete}
-use Rattle.qe_points.proofs.listed.candidates.Goals as goal
+use Rattle.qe_points.proofs.candidate_list.candidates.Goals as goal
 
 -- all atoms are gathered
 gathered : (c : goal.After-drop-atoms-2) → map (λ (a : Bor atom.Atom). a.now) c.deref.result.now ≡ atoms (tree c.args.form.now)

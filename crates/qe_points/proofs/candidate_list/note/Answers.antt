@@ -3,7 +3,7 @@ use Rattle.qe_poly.specs.Equal.{poly_eq}
 use Rattle.indexmap.proofs.CallerLemmas.{insert_entry-new}
 use Rattle.indexmap.specs.IndexMap.{insert_entry}
 use Rattle.qe_points.proofs.Listing.{with_found, with_new, none_found}
-use Rattle.qe_points.proofs.listed.note.Goals as goal
+use Rattle.qe_points.proofs.candidate_list.note.Goals as goal
 
 pub returns-in_ok-insert : goal.returns-in_ok-insert
 returns-in_ok-insert c =

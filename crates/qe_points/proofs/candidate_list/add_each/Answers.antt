@@ -1,6 +1,6 @@
 use Rattle.qe_points.proofs.Gathering.{roots_more, roots_all}
 use Rattle.std.proofs.lemmas.Map.Iter.{rest_more, rest_all}
-use Rattle.qe_points.proofs.listed.add_each.Goals as goal
+use Rattle.qe_points.proofs.candidate_list.add_each.Goals as goal
 
 pub loop-poly-preserved : goal.loop-poly-preserved
 loop-poly-preserved c =

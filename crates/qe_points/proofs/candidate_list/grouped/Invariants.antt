@@ -3,7 +3,7 @@ use Rattle.qe_form.specs.declared.form.Atom as atom
 use Rattle.qe_poly.specs.Polynomial.{IsPolynomial}
 use Rattle.qe_points.specs.Candidates.{numbered, distinct}
 use Rattle.qe_points.proofs.Gathering.{IsLeft}
-use Rattle.qe_points.proofs.listed.grouped.Given as goal
+use Rattle.qe_points.proofs.candidate_list.grouped.Given as goal
 
 abbrev pub invariant-loop-number : goal.invariant-loop-number
 invariant-loop-number l = record {
