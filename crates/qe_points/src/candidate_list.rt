@@ -81,17 +81,43 @@ fn grouped(alloc: Global, x: Var, atoms: &[&Atom]) -> Result<Groups, OutOfMemory
     Ok(Groups { zero, other })
 }
 
-/// Adds the candidates at the roots of a polynomial, or just above them.
+/// Where candidates stand that come from roots.
+#[derive(Clone, Copy)]
+pub enum Spot {
+    /// At the roots.
+    At,
+    /// Just above the roots.
+    Above,
+}
+
+impl Spot {
+    ghost use Rattle.std.specs.Prelude.{◌≡◌};
+    ghost use Rattle.qe_points.specs.Candidates.{is_above};
+
+    /// Whether it is just above the roots.
+    fn is_above(self) -> bool
+        ensures { result ≡ is_above self }
+    {
+        match self {
+            Spot::At => false,
+            Spot::Above => true,
+        }
+    }
+}
+
+/// Adds the candidates that come from the roots of a polynomial.
 fn add_roots(
     alloc: Global,
     x: Var,
-    plus: bool,
+    spot: Spot,
     poly: Poly,
     atom: u64,
     candidates: &mut Vec<Candidate>,
 ) -> Result<(), OutOfMemory>
-    ensures { OnOk result (candidates.new.items ≡ candidates.old.items ++ spec.roots_of x.0 plus (poly, atom)) }
+    ensures { OnOk result (candidates.new.items
+        ≡ candidates.old.items ++ spec.roots_of x.0 (spec.is_above spot) (poly, atom)) }
 {
+    let plus = spot.is_above();
     let degree = poly.degree_in(x);
     if degree == 1 {
         candidates.push(Candidate::Root {
@@ -129,14 +155,15 @@ fn add_roots(
 fn add_each(
     alloc: Global,
     x: Var,
-    plus: bool,
+    spot: Spot,
     found: Found,
     candidates: &mut Vec<Candidate>,
 ) -> Result<(), OutOfMemory>
-    ensures { OnOk result (candidates.new.items ≡ candidates.old.items ++ spec.roots x.0 plus found.entries) }
+    ensures { OnOk result (candidates.new.items
+        ≡ candidates.old.items ++ spec.roots x.0 (spec.is_above spot) found.entries) }
 {
     for (poly, atom) in found {
-        add_roots(alloc, x, plus, poly, atom, candidates)?;
+        add_roots(alloc, x, spot, poly, atom, candidates)?;
     }
     Ok(())
 }
@@ -158,8 +185,8 @@ pub fn candidates(alloc: Global, form: &Form, x: Var) -> Result<Vec<Candidate>, 
     gather(form, &mut atoms)?;
     let groups = grouped(alloc, x, &atoms)?;
     let mut candidates = Vec::new(alloc);
-    add_each(alloc, x, false, groups.zero, &mut candidates)?;
-    add_each(alloc, x, true, groups.other, &mut candidates)?;
+    add_each(alloc, x, Spot::At, groups.zero, &mut candidates)?;
+    add_each(alloc, x, Spot::Above, groups.other, &mut candidates)?;
     candidates.push(Candidate::MinusInf)?;
     Ok(candidates)
 }

@@ -3,14 +3,14 @@
 #![tactic(auto)]
 
 mod candidate;
+mod candidate_list;
 mod choice;
 mod guard;
-mod candidate_list;
 
 pub use candidate::{Candidate, Which};
+pub use candidate_list::candidates;
 pub use choice::choose;
 pub use guard::{GuardedPoint, guarded};
-pub use candidate_list::candidates;
 pub use qe_form::{Form, Var};
 pub use qe_poly::{Poly, PolyLimit};
 pub use qe_root::{Point, RootPoint, Stage, SubstStop};
