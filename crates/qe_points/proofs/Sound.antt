@@ -21,6 +21,7 @@ use Rattle.qe_root.specs.declared.point.RootPoint.{RootPoint}
 use Rattle.qe_root.specs.declared.point.Point.{Point}
 use Rattle.qe_root.specs.declared.point.Point.TheVariants as point
 use Rattle.qe_root.specs.Holds.{StandsAt, OwnIsZero}
+use Rattle.qe_root.specs.Occurs.{OccursInRoot, OccursInPoint}
 use Rattle.qe_root.specs.Outcome.{IsOutcome}
 use Rattle.qe_root.specs.Value.{IsValue}
 use Rattle.qe_root.specs.SignForm.{equal, not_equal}
@@ -31,7 +32,7 @@ use Rattle.qe_points.specs.declared.candidate.Candidate.TheVariants.{Root}
 use Rattle.qe_points.specs.declared.guard.GuardedPoint.{GuardedPoint}
 use Rattle.qe_points.specs.declared.guard.RootWithGuard.{RootWithGuard}
 use Rattle.qe_points.specs.Guard.{atomic, both, discriminant, root_guard, is_negative, turned, quadratic_root, root_of_kind, at_or_above}
-use Rattle.qe_points.specs.Guarded.{Fits, HasRoot, IsMade, IsGuardedBy, IsThere, OccursInRoot, OccursInPoint, IsSound}
+use Rattle.qe_points.specs.Guarded.{Fits, HasRoot, IsMade, IsGuardedBy, IsThere, IsSound}
 use Rattle.qe_points.proofs.Occurring.{occurs_coefficient, occurs_negative, occurs_scaled, occurs_difference, occurs_product}
 use Rattle.qe_points.proofs.Roots.{to_value, of_value, turned_value, of_turned, to_root, of_root, guard_flat, root_exists, zero_there}
 

@@ -15,11 +15,11 @@ use Rattle.qe_form.specs.Truth.{Is}
 use Rattle.qe_simp.specs.Simplified.{simplified}
 use Rattle.qe_root.specs.declared.point.RootPoint.{RootPoint}
 use Rattle.qe_root.specs.declared.point.Point.{Point}
-use Rattle.qe_root.specs.declared.point.Point.TheVariants as point
 use Rattle.qe_root.specs.declared.stop.Stage.TheVariants as stage
 use Rattle.qe_root.specs.declared.stop.SubstStop.{SubstStop}
 use Rattle.qe_root.specs.declared.stop.SubstStop.TheVariants as stop
 use Rattle.qe_root.specs.Holds.{StandsAt, OwnIsZero}
+use Rattle.qe_root.specs.Occurs.{OccursInPoint}
 use Rattle.qe_points.specs.declared.candidate.Which.{Which}
 use Rattle.qe_points.specs.declared.candidate.Which.TheVariants.{Linear, Upper, Lower}
 use Rattle.qe_points.specs.declared.candidate.Candidate.{Candidate}
@@ -86,15 +86,6 @@ own MinusInf = None
 pub record IsThere (x : ℕ) (c : Candidate) (p : Point) (at : assignment.Point) : Type 0 where
   pub place : (k : Place ValidNumber) × StandsAt p at k
   pub zero : (k : Place ValidNumber) → StandsAt p at k → OwnIsZero x (own c) at k
-
--- the variable occurs in a polynomial of the point
-abbrev pub OccursInRoot : ℕ → RootPoint → Type 0
-OccursInRoot y k = OccursInSome y k.p ⊎ (OccursInSome y k.q ⊎ (OccursInSome y k.r ⊎ OccursInSome y k.s))
-
-abbrev pub OccursInPoint : ℕ → Point → Type 0
-OccursInPoint y (point.Root k) = OccursInRoot y k
-OccursInPoint y (point.RootPlus k) = OccursInRoot y k
-OccursInPoint y point.MinusInf = ⊥
 
 -- The guard is plain and its signs are proper; where it is true, the point has a place, where the candidate's polynomial is zero; and the
 -- variables of the guard and of the point are those of that polynomial, without x.

@@ -83,7 +83,7 @@ fn grouped(alloc: Global, x: Var, atoms: &[&Atom]) -> Result<Groups, OutOfMemory
 
 /// Where candidates stand that come from roots.
 #[derive(Clone, Copy)]
-pub enum Spot {
+enum Spot {
     /// At the roots.
     At,
     /// Just above the roots.

@@ -5,3 +5,4 @@ pub mod SignForm
 pub mod Laws
 pub mod Holds
 pub mod Atoms
+pub mod Occurs

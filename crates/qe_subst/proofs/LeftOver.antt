@@ -18,7 +18,8 @@ use Rattle.qe_root.specs.Value.{triple, square, plain_part_of, root_part_of}
 use Rattle.qe_root.specs.Shape.{formula}
 use Rattle.qe_root.specs.SignForm.{equal, zero_shape, side_shape, sign_shape, sign_formula, norm}
 use Rattle.qe_subst.specs.Canonical.{IsCanonical, AreCanonical}
-use Rattle.qe_subst.specs.Left.{OccursInRoot, OccursAt, IsLeft}
+use Rattle.qe_root.specs.Occurs.{OccursInRoot, OccursInPoint}
+use Rattle.qe_subst.specs.Left.{IsLeft}
 use Rattle.qe_subst.specs.Substituted.{strict, is_even, is_own, constant, sign_is, at_root, near, each_coefficient, everywhere, line_below, square_below, at_minus_infinity, at_point, for_atom, substituted, substituted_each}
 use Rattle.qe_subst.proofs.Degrees.{coefficient_whole, occurs_coefficient, occurs_nonzero, occurs_negative, occurs_sum, occurs_product}
 use Rattle.qe_subst.proofs.Derivatives.{degree_of_derivative}
@@ -189,7 +190,7 @@ module _ (y : ℕ) where
     -- ---- at a test point
 
     module _ (own : Option Polynomial) where
-      point_from : (point : Point) (f : Polynomial) → IsPolynomial f → (s : Signs) → IsFree y (at_point x point own f s) → IsOther f ⊎ OccursAt y point
+      point_from : (point : Point) (f : Polynomial) → IsPolynomial f → (s : Signs) → IsFree y (at_point x point own f s) → IsOther f ⊎ OccursInPoint y point
       point_from (Root k) f canonical s m = at_root_from k f canonical own s m
       point_from (RootPlus k) f canonical s m =
           elim (is_even s) as (λ t. IsFree y (cond t (everywhere x f s) (near x own k (degree_in x f) f s)) → IsOther f ⊎ OccursInRoot y k) [
@@ -199,15 +200,15 @@ module _ (y : ℕ) where
       point_from MinusInf f canonical s m = below_from f (λ i o. inl (occurs_coefficient x y i f canonical o)) s m
 
       module _ (point : Point) where
-        atom_from : (a : atom.Atom) → IsPolynomial a.poly → IsFree y (for_atom x point own a) → IsOther a.poly ⊎ OccursAt y point
+        atom_from : (a : atom.Atom) → IsPolynomial a.poly → IsFree y (for_atom x point own a) → IsOther a.poly ⊎ OccursInPoint y point
         atom_from a canonical m =
-            elim (eqb (degree_in x a.poly) 0) as (λ t. eqb (degree_in x a.poly) 0 ≡ t → IsFree y (cond t (Atom a) (at_point x point own a.poly a.signs)) → IsOther a.poly ⊎ OccursAt y point) [
+            elim (eqb (degree_in x a.poly) 0) as (λ t. eqb (degree_in x a.poly) 0 ≡ t → IsFree y (cond t (Atom a) (at_point x point own a.poly a.signs)) → IsOther a.poly ⊎ OccursInPoint y point) [
               | true ↦ λ none h. inl (other_of a.poly canonical (let d = eqb-true (degree_in x a.poly) 0 none in omega (arith, d)) h)
               | false ↦ λ some h. point_from point a.poly canonical a.signs h
             ] refl m
 
         mutual
-          formula_from : (f : Formula) → IsCanonical f → IsFree y (substituted x point own f) → ((y ≢ x) × IsFree y f) ⊎ OccursAt y point
+          formula_from : (f : Formula) → IsCanonical f → IsFree y (substituted x point own f) → ((y ≢ x) × IsFree y f) ⊎ OccursInPoint y point
           formula_from True canonical m = absurd m
           formula_from False canonical m = absurd m
           formula_from (Atom a) canonical m = atom_from a canonical m
@@ -215,7 +216,7 @@ module _ (y : ℕ) where
           formula_from (Or fs) canonical m = each_part_from fs canonical m
           formula_from f canonical m = absurd canonical
 
-          each_part_from : (fs : Formulas) → AreCanonical fs → IsFreeInSome y (substituted_each x point own fs) → ((y ≢ x) × IsFreeInSome y fs) ⊎ OccursAt y point
+          each_part_from : (fs : Formulas) → AreCanonical fs → IsFreeInSome y (substituted_each x point own fs) → ((y ≢ x) × IsFreeInSome y fs) ⊎ OccursInPoint y point
           each_part_from no_more canonical m = absurd m
           each_part_from (more f fs) canonical (inl m) = elim (formula_from f canonical.0 m) [ inl h ↦ inl (h.0, inl h.1) | inr h ↦ inr h ]
           each_part_from (more f fs) canonical (inr m) = elim (each_part_from fs canonical.1 m) [ inl h ↦ inl (h.0, inr h.1) | inr h ↦ inr h ]
