@@ -19,14 +19,14 @@ use Rattle.qe_root.specs.declared.point.Point.{Point}
 use Rattle.qe_root.specs.declared.point.Point.TheVariants.{Root, RootPlus, MinusInf}
 use Rattle.qe_root.specs.Outcome.{is_zero}
 use Rattle.qe_root.specs.Value.{triple, square, plain_part, root_part, plain_part_of, root_part_of}
-use Rattle.qe_root.specs.Shape.{Shape, both, either, formula}
+use Rattle.qe_root.specs.Shape.{Shape, conjunction, disjunction, formula}
 use Rattle.qe_root.specs.Shape as shape
 use Rattle.qe_root.specs.SignForm.{equal, not_equal, sign_shape, norm, sign_formula}
 use Rattle.qe_points.specs.declared.candidate.Which.{Which}
 use Rattle.qe_points.specs.declared.candidate.Which.TheVariants.{Linear, Upper, Lower}
 use Rattle.qe_points.specs.declared.candidate.Candidate.{Candidate}
 use Rattle.qe_points.specs.declared.candidate.Candidate.TheVariants as candidate
-use Rattle.qe_points.specs.Guard.{guard, point_of, discriminant, is_negative, turned, root, at_root}
+use Rattle.qe_points.specs.Guard.{guard, point_of, discriminant, is_negative, turned, root_of_kind, at_or_above}
 use Rattle.qe_points.specs.Guarded.{own}
 use Rattle.qe_subst.specs.Substituted as spec
 use Rattle.qe_tree.specs.Sound.{IsFine}
@@ -72,13 +72,13 @@ module _ (k : RootPoint) (h : IsRoot k) where
 -- P holds of each X of a shape
 abbrev EachOf : {X : Type 0} → (X → Type 0) → Shape X → Type 0
 EachOf P (shape.atom a signs) = P a
-EachOf P (both f g) = EachOf P f × EachOf P g
-EachOf P (either f g) = EachOf P f × EachOf P g
+EachOf P (conjunction f g) = EachOf P f × EachOf P g
+EachOf P (disjunction f g) = EachOf P f × EachOf P g
 
 formula_fine : (f : Shape Polynomial) → EachOf IsPolynomial f → IsFine (formula f)
 formula_fine (shape.atom a signs) h = h
-formula_fine (both f g) h = (formula_fine f h.0, (formula_fine g h.1, tt))
-formula_fine (either f g) h = (formula_fine f h.0, (formula_fine g h.1, tt))
+formula_fine (conjunction f g) h = (formula_fine f h.0, (formula_fine g h.1, tt))
+formula_fine (disjunction f g) h = (formula_fine f h.0, (formula_fine g h.1, tt))
 
 module _ {X : Type 0} (P : X → Type 0) (opposite : X → X) (a b e n : X) (ha : P a) (hb : P b) (he : P e) (hn : P n) (ta : P (opposite a)) (tb : P (opposite b)) where
   shape_each : (minus zero plus : Bool) → EachOf P (sign_shape opposite (record { minus = minus; zero = zero; plus = plus }) a b e n)
@@ -138,12 +138,12 @@ module _ (x : ℕ) where
   everywhere_fine f signs h =
       fine_if signs.zero (And (spec.each_coefficient x (degree_in x f) f signs)) (Or (spec.each_coefficient x (degree_in x f) f signs)) (each_coefficient_fine (degree_in x f) f signs h) (each_coefficient_fine (degree_in x f) f signs h)
 
-  below_fine : (f : Polynomial) (signs : Signs) → IsPolynomial f → IsFine (cond (eqb (degree_in x f) 1) (spec.line_below x f signs) (spec.square_below x f signs))
+  below_fine : (f : Polynomial) (signs : Signs) → IsPolynomial f → IsFine (cond (eqb (degree_in x f) 1) (spec.line_below x f signs) (spec.quadratic_below x f signs))
   below_fine f signs h =
       let c0 = coefficient 0 f h in
       let c1 = coefficient 1 f h in
       let c2 = coefficient 2 f h in
-      fine_if (eqb (degree_in x f) 1) (spec.line_below x f signs) (spec.square_below x f signs)
+      fine_if (eqb (degree_in x f) 1) (spec.line_below x f signs) (spec.quadratic_below x f signs)
       (c1, ((c1, (c0, tt)), tt))
       (c2, ((c2, (c1, tt)), ((c2, (c1, (c0, tt))), tt)))
 
@@ -151,7 +151,7 @@ module _ (x : ℕ) where
   at_point_fine (Root k) own root f signs h = at_root_fine own k root f signs h
   at_point_fine (RootPlus k) own root f signs h =
       fine_if (spec.is_even signs) (spec.everywhere x f signs) (spec.near x own k (degree_in x f) f signs) (everywhere_fine f signs h) (near_fine own k root (degree_in x f) f signs h)
-  at_point_fine MinusInf own root f signs h = fine_if (spec.is_even signs) (spec.everywhere x f signs) (cond (eqb (degree_in x f) 1) (spec.line_below x f signs) (spec.square_below x f signs)) (everywhere_fine f signs h) (below_fine f signs h)
+  at_point_fine MinusInf own root f signs h = fine_if (spec.is_even signs) (spec.everywhere x f signs) (cond (eqb (degree_in x f) 1) (spec.line_below x f signs) (spec.quadratic_below x f signs)) (everywhere_fine f signs h) (below_fine f signs h)
 
   module _ (point : Point) (own : Option Polynomial) (test : IsTestPoint point) where
     for_atom_fine : (a : atom.Atom) → IsPolynomial a.poly → IsFine (spec.for_atom x point own a)
@@ -188,7 +188,7 @@ module _ (x : ℕ) (f : Polynomial) (h : IsPolynomial f) where
       (IsPolynomial-product (coefficient_in x 1 f) (coefficient_in x 1 f) (coefficient x 1 f h) (coefficient x 1 f h))
       (IsPolynomial-scaled (pos 4) (product (coefficient_in x 2 f) (coefficient_in x 0 f)) (IsPolynomial-product (coefficient_in x 2 f) (coefficient_in x 0 f) (coefficient x 2 f h) (coefficient x 0 f h)))
 
-  root_fine : (which : Which) → IsRoot (root x f which)
+  root_fine : (which : Which) → IsRoot (root_of_kind x f which)
   root_fine Linear = record { p = IsPolynomial-negative (coefficient_in x 0 f) (coefficient x 0 f h); q = tt; r = tt; s = coefficient x 1 f h }
   root_fine Upper = record {
     p = IsPolynomial-negative (coefficient_in x 1 f) (coefficient x 1 f h);
@@ -219,12 +219,12 @@ turned_fine k h = by_sign (is_negative k.s)
     by_sign true = record { p = IsPolynomial-negative k.p h.p; q = IsPolynomial-negative k.q h.q; r = h.r; s = IsPolynomial-negative k.s h.s }
     by_sign false = h
 
-at_root_test : (plus : Bool) (k : RootPoint) → IsRoot k → IsTestPoint (at_root plus k)
+at_root_test : (plus : Bool) (k : RootPoint) → IsRoot k → IsTestPoint (at_or_above plus k)
 at_root_test true k h = h
 at_root_test false k h = h
 
 pub point_fine : (x : ℕ) (c : Candidate) → IsOverPolynomial c → IsTestPoint (point_of x c)
-point_fine x (candidate.Root f n which plus) h = at_root_test plus (turned (root x f which)) (turned_fine (root x f which) (root_fine x f h which))
+point_fine x (candidate.Root f n which plus) h = at_root_test plus (turned (root_of_kind x f which)) (turned_fine (root_of_kind x f which) (root_fine x f h which))
 point_fine x candidate.MinusInf h = tt
 
 pub guard_of_fine : (x : ℕ) (c : Candidate) → IsOverPolynomial c → IsFine (guard x c)

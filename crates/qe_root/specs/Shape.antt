@@ -9,17 +9,17 @@ use Rattle.qe_form.specs.Truth.{has_sign}
 -- an atom has an X and the signs that it may have
 pub data Shape (X : Type 0) : Type 0 where
   atom : X → Signs → Shape X
-  both : Shape X → Shape X → Shape X
-  either : Shape X → Shape X → Shape X
+  conjunction : Shape X → Shape X → Shape X
+  disjunction : Shape X → Shape X → Shape X
 
 -- over polynomials it is a formula
 abbrev pub formula : Shape Polynomial → Formula
 formula (atom p signs) = Atom (record { poly = p; signs = signs })
-formula (both f g) = And (more (formula f) (more (formula g) no_more))
-formula (either f g) = Or (more (formula f) (more (formula g) no_more))
+formula (conjunction f g) = And (more (formula f) (more (formula g) no_more))
+formula (disjunction f g) = Or (more (formula f) (more (formula g) no_more))
 
--- over signs it is true or false
-abbrev pub is_true : Shape Sign → Bool
-is_true (atom s signs) = has_sign signs s
-is_true (both f g) = is_true f && is_true g
-is_true (either f g) = is_true f || is_true g
+-- over signs it is met or not
+abbrev pub is_met : Shape Sign → Bool
+is_met (atom s signs) = has_sign signs s
+is_met (conjunction f g) = is_met f && is_met g
+is_met (disjunction f g) = is_met f || is_met g

@@ -14,7 +14,7 @@ use Rattle.qe_form.specs.Value.{value}
 use Rattle.qe_form.specs.Truth.{has_sign, Is}
 use Rattle.qe_root.specs.Outcome.{first, is_zero}
 use Rattle.qe_root.specs.Value.{triple, triple_limit}
-use Rattle.qe_root.specs.Shape.{Shape, atom, both, either, formula}
+use Rattle.qe_root.specs.Shape.{Shape, atom, conjunction, disjunction, formula}
 
 -- ---- sets of signs
 
@@ -43,17 +43,17 @@ is_even signs = cond signs.minus signs.plus (cond signs.plus false true)
 
 -- A + B*sqrt(r) = 0: A and B have no common sign, and A^2 = B^2*r
 abbrev pub equal_shape : {X : Type 0} → (e n : X) → Shape X
-equal_shape e n = both (atom e at_most) (atom n equal)
+equal_shape e n = conjunction (atom e at_most) (atom n equal)
 
 abbrev pub not_equal_shape : {X : Type 0} → (e n : X) → Shape X
-not_equal_shape e n = either (atom e more) (atom n not_equal)
+not_equal_shape e n = disjunction (atom e more) (atom n not_equal)
 
 -- A + B*sqrt(r) <= 0: A is not positive and counts for no less, or B is not positive and counts for no less
 abbrev pub at_most_shape : {X : Type 0} → (a b n : X) → Shape X
-at_most_shape a b n = either (both (atom a at_most) (atom n at_least)) (both (atom b at_most) (atom n at_most))
+at_most_shape a b n = disjunction (conjunction (atom a at_most) (atom n at_least)) (conjunction (atom b at_most) (atom n at_most))
 
 abbrev pub less_shape : {X : Type 0} → (a b n : X) → Shape X
-less_shape a b n = either (both (atom a less) (atom n more)) (both (atom b at_most) (either (atom a less) (atom n less)))
+less_shape a b n = disjunction (conjunction (atom a less) (atom n more)) (conjunction (atom b at_most) (disjunction (atom a less) (atom n less)))
 
 -- `=` where zero is in the set, and else `<>`
 abbrev pub zero_shape : {X : Type 0} → (zero : Bool) → (e n : X) → Shape X

@@ -13,8 +13,8 @@ use Rattle.qe_form.specs.Signs.{IsProper, mirror}
 use Rattle.qe_form.specs.Formula.{And, Or, no_more, more}
 use Rattle.qe_form.specs.Truth.{has_sign}
 use Rattle.qe_root.specs.SignForm.{equal, not_equal}
-use Rattle.qe_subst.specs.Substituted.{strict, is_even, sign_is, both, each_coefficient, everywhere, line_below, constant_below, square_below, at_minus_infinity}
-use Rattle.qe_subst.proofs.SignTests.{line_test, square_test, each_zero, some_not_zero, zero_below}
+use Rattle.qe_subst.specs.Substituted.{strict, is_even, sign_is, both, each_coefficient, everywhere, line_below, constant_below, quadratic_below, at_minus_infinity}
+use Rattle.qe_subst.proofs.SignTests.{line_test, quadratic_test, each_zero, some_not_zero, zero_below}
 use Rattle.qe_subst.proofs.TestFormulas.{Reads, rereads, reads_sign, and_more, or_more, reads_both, reads_either}
 use Rattle.qe_subst.proofs.OnLine.{coefficient, sign_at_place, no_coefficient}
 
@@ -85,11 +85,11 @@ module _ (x : ℕ) (p : Point) (valid : IsPoint p) (f : Polynomial) where
       (sign_is (coefficient_in x 1 f) (mirror (strict s))) (both (sign_is (coefficient_in x 1 f) equal) (sign_is (coefficient_in x 0 f) s)) (coefficient_reads 1 (mirror (strict s)))
       (reads_both p (has_sign equal (sign 1)) (has_sign s (sign 0)) (sign_is (coefficient_in x 1 f) equal) (sign_is (coefficient_in x 0 f) s) (coefficient_reads 1 equal) (coefficient_reads 0 s)))
 
-  square_reads : (s : Signs) → Reads p (has_sign s (sign_at_place x p valid line.below f)) (square_below x f s)
-  square_reads s =
+  quadratic_reads : (s : Signs) → Reads p (has_sign s (sign_at_place x p valid line.below f)) (quadratic_below x f s)
+  quadratic_reads s =
       rereads p
       (has_sign (strict s) (sign 2) || ((has_sign equal (sign 2) && (has_sign (mirror (strict s)) (sign 1) && true)) || ((has_sign equal (sign 2) && (has_sign equal (sign 1) && (has_sign s (sign 0) && true))) || false)))
-      (has_sign s (sign_at_place x p valid line.below f)) (square_below x f s) (square_test s (sign 2) (sign 1) (sign 0))
+      (has_sign s (sign_at_place x p valid line.below f)) (quadratic_below x f s) (quadratic_test s (sign 2) (sign 1) (sign 0))
       (or_more p (has_sign (strict s) (sign 2)) ((has_sign equal (sign 2) && (has_sign (mirror (strict s)) (sign 1) && true)) || ((has_sign equal (sign 2) && (has_sign equal (sign 1) && (has_sign s (sign 0) && true))) || false))
       (sign_is (coefficient_in x 2 f) (strict s)) (more (both (sign_is (coefficient_in x 2 f) equal) (sign_is (coefficient_in x 1 f) (mirror (strict s)))) (more (constant_below x f s) no_more)) (coefficient_reads 2 (strict s))
       (reads_either p (has_sign equal (sign 2) && (has_sign (mirror (strict s)) (sign 1) && true)) (has_sign equal (sign 2) && (has_sign equal (sign 1) && (has_sign s (sign 0) && true)))
@@ -100,10 +100,10 @@ module _ (x : ℕ) (p : Point) (valid : IsPoint p) (f : Polynomial) where
 
   pub below_reads : (s : Signs) → IsProper s → 0 < degree_in x f → degree_in x f ≤ 2 → Reads p (has_sign s (sign_at_place x p valid line.below f)) (at_minus_infinity x f s)
   below_reads s proper positive low =
-      elim (is_even s) as (λ b. is_even s ≡ b → Reads p (has_sign s (sign_at_place x p valid line.below f)) (cond b (everywhere x f s) (cond (eqb (degree_in x f) 1) (line_below x f s) (square_below x f s)))) [
+      elim (is_even s) as (λ b. is_even s ≡ b → Reads p (has_sign s (sign_at_place x p valid line.below f)) (cond b (everywhere x f s) (cond (eqb (degree_in x f) 1) (line_below x f s) (quadratic_below x f s)))) [
         | true ↦ λ even. everywhere_reads (sign_at_place x p valid line.below f) (zero_below (sign 2) (sign 1) (sign 0)) s proper even positive low
-        | false ↦ λ uneven. elim (eqb (degree_in x f) 1) as (λ b. eqb (degree_in x f) 1 ≡ b → Reads p (has_sign s (sign_at_place x p valid line.below f)) (cond b (line_below x f s) (square_below x f s))) [
+        | false ↦ λ uneven. elim (eqb (degree_in x f) 1) as (λ b. eqb (degree_in x f) 1 ≡ b → Reads p (has_sign s (sign_at_place x p valid line.below f)) (cond b (line_below x f s) (quadratic_below x f s))) [
           | true ↦ λ one. line_reads s (no_coefficient x p valid 2 f (let d = eqb-true (degree_in x f) 1 one in omega (arith, d)))
-          | false ↦ λ other. square_reads s
+          | false ↦ λ other. quadratic_reads s
         ] refl
       ] refl

@@ -50,8 +50,8 @@ above_same a b c a' b' c' v same_a same_b same_c =
 
 module _ (x : ℕ) (p : Point) (valid : IsPoint p) (v : ValidNumber) where
   -- the coefficients of the derivative
-  no_square : (f : Polynomial) → IsPolynomial f → degree_in x f ≤ 2 → ValidEqual (coefficient x p valid 2 (derivative x f)) valid_operations.zero
-  no_square f canonical low = equals_zero numbers (coefficient x p valid 2 (derivative x f))
+  no_quadratic : (f : Polynomial) → IsPolynomial f → degree_in x f ≤ 2 → ValidEqual (coefficient x p valid 2 (derivative x f)) valid_operations.zero
+  no_quadratic f canonical low = equals_zero numbers (coefficient x p valid 2 (derivative x f))
       (no_coefficient x p valid 2 (derivative x f) (let d = degree_of_derivative x f canonical in omega (arith, d)))
 
   twice : (f : Polynomial) → IsPolynomial f → ValidEqual (coefficient x p valid 1 (derivative x f)) (valid_operations.mul (of_int valid_operations (pos 2)) (coefficient x p valid 2 f))
@@ -104,7 +104,7 @@ module _ (x : ℕ) (p : Point) (valid : IsPoint p) (v : ValidNumber) where
       ∙ ap₂ first_sign (sym (sign_with x p valid f canonical low v))
       (sym (above_same (coefficient x p valid 2 (derivative x f)) (coefficient x p valid 1 (derivative x f)) (coefficient x p valid 0 (derivative x f))
       valid_operations.zero (valid_operations.mul (of_int valid_operations (pos 2)) (coefficient x p valid 2 f)) (coefficient x p valid 1 f) v
-      (no_square f canonical low) (twice f canonical) (once f canonical)))
+      (no_quadratic f canonical low) (twice f canonical) (once f canonical)))
 
   module _ (k : RootPoint) (root : IsValue k p v.0) (own : Option Polynomial) (own_zero : OwnIsZero x own p (line.at v)) (s : Signs) (proper : IsProper (strict s)) where
     pub near_reads : (n : ℕ) (f : Polynomial) → IsPolynomial f → degree_in x f ≡ n → n ≤ 2

@@ -17,10 +17,10 @@ use Rattle.qe_root.specs.Outcome.{is_zero}
 use Rattle.qe_root.specs.Value.{triple, square, plain_part_of, root_part_of}
 use Rattle.qe_root.specs.Shape.{formula}
 use Rattle.qe_root.specs.SignForm.{equal, zero_shape, side_shape, sign_shape, sign_formula, norm}
-use Rattle.qe_subst.specs.Canonical.{IsCanonical, AreCanonical}
+use Rattle.qe_root.specs.Atoms.{HasCanonicalAtoms, HaveCanonicalAtoms}
 use Rattle.qe_root.specs.Occurs.{OccursInRoot, OccursInPoint}
 use Rattle.qe_subst.specs.Left.{IsLeft}
-use Rattle.qe_subst.specs.Substituted.{strict, is_even, is_own, constant, sign_is, at_root, near, each_coefficient, everywhere, line_below, square_below, at_minus_infinity, at_point, for_atom, substituted, substituted_each}
+use Rattle.qe_subst.specs.Substituted.{strict, is_even, is_own, constant, sign_is, at_root, near, each_coefficient, everywhere, line_below, quadratic_below, at_minus_infinity, at_point, for_atom, substituted, substituted_each}
 use Rattle.qe_subst.proofs.Degrees.{coefficient_whole, occurs_coefficient, occurs_nonzero, occurs_negative, occurs_sum, occurs_product}
 use Rattle.qe_subst.proofs.Derivatives.{degree_of_derivative}
 
@@ -118,9 +118,9 @@ module _ (y : ℕ) where
 
       below_from : (s : Signs) → IsFree y (at_minus_infinity x f s) → G
       below_from s m =
-          elim (is_even s) as (λ t. IsFree y (cond t (everywhere x f s) (cond (eqb (degree_in x f) 1) (line_below x f s) (square_below x f s))) → G) [
+          elim (is_even s) as (λ t. IsFree y (cond t (everywhere x f s) (cond (eqb (degree_in x f) 1) (line_below x f s) (quadratic_below x f s))) → G) [
             | true ↦ λ k. everywhere_from s k
-            | false ↦ elim (eqb (degree_in x f) 1) as (λ t. IsFree y (cond t (line_below x f s) (square_below x f s)) → G) [
+            | false ↦ elim (eqb (degree_in x f) 1) as (λ t. IsFree y (cond t (line_below x f s) (quadratic_below x f s)) → G) [
               | true ↦ λ k. in_two (h 1) (in_two (h 1) (h 0)) k
               | false ↦ λ k. in_three (h 2) (in_two (h 2) (h 1)) (in_three (h 2) (h 1) (h 0)) k
             ]
@@ -208,7 +208,7 @@ module _ (y : ℕ) where
             ] refl m
 
         mutual
-          formula_from : (f : Formula) → IsCanonical f → IsFree y (substituted x point own f) → ((y ≢ x) × IsFree y f) ⊎ OccursInPoint y point
+          formula_from : (f : Formula) → HasCanonicalAtoms f → IsFree y (substituted x point own f) → ((y ≢ x) × IsFree y f) ⊎ OccursInPoint y point
           formula_from True canonical m = absurd m
           formula_from False canonical m = absurd m
           formula_from (Atom a) canonical m = atom_from a canonical m
@@ -216,11 +216,11 @@ module _ (y : ℕ) where
           formula_from (Or fs) canonical m = each_part_from fs canonical m
           formula_from f canonical m = absurd canonical
 
-          each_part_from : (fs : Formulas) → AreCanonical fs → IsFreeInSome y (substituted_each x point own fs) → ((y ≢ x) × IsFreeInSome y fs) ⊎ OccursInPoint y point
+          each_part_from : (fs : Formulas) → HaveCanonicalAtoms fs → IsFreeInSome y (substituted_each x point own fs) → ((y ≢ x) × IsFreeInSome y fs) ⊎ OccursInPoint y point
           each_part_from no_more canonical m = absurd m
           each_part_from (more f fs) canonical (inl m) = elim (formula_from f canonical.0 m) [ inl h ↦ inl (h.0, inl h.1) | inr h ↦ inr h ]
           each_part_from (more f fs) canonical (inr m) = elim (each_part_from fs canonical.1 m) [ inl h ↦ inl (h.0, inr h.1) | inr h ↦ inr h ]
 
 -- for the formula of the code
-pub made_left : (x : ℕ) (point : Point) (own : Option Polynomial) (f g : Formula) → IsCanonical f → g ≡ substituted x point own f → IsLeft x point f g
+pub made_left : (x : ℕ) (point : Point) (own : Option Polynomial) (f g : Formula) → HasCanonicalAtoms f → g ≡ substituted x point own f → IsLeft x point f g
 made_left x point own f g canonical made y free = formula_from y x own point f canonical (subst (λ h. IsFree y h) made free)

@@ -14,7 +14,7 @@ use Rattle.qe_root.specs.Outcome.{is_zero}
 use Rattle.qe_root.specs.Value.{plain_part_of, root_part_of}
 use Rattle.qe_root.specs.Shape.{formula}
 use Rattle.qe_root.specs.SignForm.{equal, zero_shape, side_shape, sign_shape, sign_formula, norm}
-use Rattle.qe_subst.specs.Substituted.{strict, is_even, is_own, constant, sign_is, at_root, near, each_coefficient, everywhere, line_below, square_below, at_minus_infinity, above_root, at_point, for_atom, substituted, substituted_each}
+use Rattle.qe_subst.specs.Substituted.{strict, is_even, is_own, constant, sign_is, at_root, near, each_coefficient, everywhere, line_below, quadratic_below, at_minus_infinity, above_root, at_point, for_atom, substituted, substituted_each}
 use Rattle.qe_subst.proofs.ProperSigns.{strict_proper, mirror_proper, equal_proper}
 
 constant_plain : (b : Bool) → IsPlainAndProper (constant b)
@@ -76,9 +76,9 @@ module _ (x : ℕ) (own : Option Polynomial) where
 
   below_plain : (f : Polynomial) (s : Signs) → IsProper s → IsPlainAndProper (at_minus_infinity x f s)
   below_plain f s proper =
-      elim (is_even s) as (λ t. is_even s ≡ t → IsPlainAndProper (cond t (everywhere x f s) (cond (eqb (degree_in x f) 1) (line_below x f s) (square_below x f s)))) [
+      elim (is_even s) as (λ t. is_even s ≡ t → IsPlainAndProper (cond t (everywhere x f s) (cond (eqb (degree_in x f) 1) (line_below x f s) (quadratic_below x f s)))) [
         | true ↦ λ even. everywhere_plain f s proper
-        | false ↦ λ uneven. elim (eqb (degree_in x f) 1) as (λ t. IsPlainAndProper (cond t (line_below x f s) (square_below x f s))) [
+        | false ↦ λ uneven. elim (eqb (degree_in x f) 1) as (λ t. IsPlainAndProper (cond t (line_below x f s) (quadratic_below x f s))) [
           | true ↦ (mirror_proper s uneven, ((equal_proper, (proper, tt)), tt))
           | false ↦ (strict_proper s proper uneven, ((equal_proper, (mirror_proper s uneven, tt)), ((equal_proper, (equal_proper, (proper, tt))), tt)))
         ]

@@ -28,14 +28,14 @@ line_test s Minus y = end_or s.plus
 line_test s Zero y = ends (has_sign s y)
 line_test s Plus y = end_or s.minus
 
-pub square_test : (s : Signs) (x y z : Sign)
+pub quadratic_test : (s : Signs) (x y z : Sign)
     → (has_sign (strict s) x || ((has_sign equal x && (has_sign (mirror (strict s)) y && true)) || ((has_sign equal x && (has_sign equal y && (has_sign s z && true))) || false)))
     ≡ has_sign s (first_sign x (first_sign (opposite y) z))
-square_test s Minus y z = end_or s.minus
-square_test s Plus y z = end_or s.plus
-square_test s Zero Minus z = ends s.plus
-square_test s Zero Zero z = ends (has_sign s z)
-square_test s Zero Plus z = ends s.minus
+quadratic_test s Minus y z = end_or s.minus
+quadratic_test s Plus y z = end_or s.plus
+quadratic_test s Zero Minus z = ends s.plus
+quadratic_test s Zero Zero z = ends (has_sign s z)
+quadratic_test s Zero Plus z = ends s.minus
 
 -- ---- zero everywhere
 

@@ -23,7 +23,7 @@ use Rattle.qe_form.specs.Truth.{has_sign, Is, EachIs, SomeIs}
 use Rattle.qe_root.specs.declared.point.Point as code
 use Rattle.qe_root.specs.declared.point.Point.TheVariants.{Root, RootPlus, MinusInf}
 use Rattle.qe_root.specs.Holds.{StandsAt, OwnIsZero, StandsFor}
-use Rattle.qe_subst.specs.Canonical.{IsCanonical, AreCanonical}
+use Rattle.qe_root.specs.Atoms.{HasCanonicalAtoms, HaveCanonicalAtoms}
 use Rattle.qe_subst.specs.Substituted.{is_even, everywhere, near, at_point, for_atom, substituted, substituted_each}
 use Rattle.qe_subst.proofs.ProperSigns.{strict_proper}
 use Rattle.qe_subst.proofs.TestFormulas.{Reads, rereads, reads_sign}
@@ -98,7 +98,7 @@ module _ (x : ℕ) (p : Point) (valid : IsPoint p) (own : Option Polynomial) whe
         positive i some = grind (arith, nat_tests)
 
     mutual
-      substituted_stands : (f : Formula) → degree x f ≤ 2 → IsPlainAndProper f → IsCanonical f → Stands f (substituted x point own f)
+      substituted_stands : (f : Formula) → degree x f ≤ 2 → IsPlainAndProper f → HasCanonicalAtoms f → Stands f (substituted x point own f)
       substituted_stands True low plain canonical = here numbers k (λ u t. same_way)
       substituted_stands False low plain canonical = here numbers k (λ u t. same_way)
       substituted_stands (Atom a) low plain canonical = for_atom_stands a canonical low plain
@@ -106,7 +106,7 @@ module _ (x : ℕ) (p : Point) (valid : IsPoint p) (own : Option Polynomial) whe
       substituted_stands (Or fs) low plain canonical = or_stands fs (substituted_each x point own fs) (each_stands fs low plain canonical)
       substituted_stands f low plain canonical = absurd plain
 
-      each_stands : (fs : Formulas) → degree_of_some x fs ≤ 2 → ArePlainWith (λ a. IsProper a.signs) fs → AreCanonical fs → StandEach fs (substituted_each x point own fs)
+      each_stands : (fs : Formulas) → degree_of_some x fs ≤ 2 → ArePlainWith (λ a. IsProper a.signs) fs → HaveCanonicalAtoms fs → StandEach fs (substituted_each x point own fs)
       each_stands no_more low plain canonical = here numbers k (λ u t. (same_way, same_way))
       each_stands (more f fs) low plain canonical =
           then numbers (both numbers (substituted_stands f (omega arith) plain.0 canonical.0) (each_stands fs (omega arith) plain.1 canonical.1))
@@ -117,11 +117,11 @@ module _ (x : ℕ) (p : Point) (valid : IsPoint p) (own : Option Polynomial) whe
     settled f g h b = ((λ t. then numbers h (λ u e. (e b).1 t)), (λ t. let w = some numbers (both numbers h t) in (w.1.0 b).0 w.1.1))
 
 -- the law, for the formula of the definition
-pub substituted_means : (x : ℕ) (point : code.Point) (own : Option Polynomial) (f : Formula) → degree x f ≤ 2 → IsPlainAndProper f → IsCanonical f → StandsFor x point own f (substituted x point own f)
+pub substituted_means : (x : ℕ) (point : code.Point) (own : Option Polynomial) (f : Formula) → degree x f ≤ 2 → IsPlainAndProper f → HasCanonicalAtoms f → StandsFor x point own f (substituted x point own f)
 substituted_means x point own f low plain canonical at valid k stands zero b =
     let s = settled x at valid own point k stands zero f (substituted x point own f) (substituted_stands x at valid own point k stands zero f low plain canonical) b in
     ((λ t. (s.0 t).is), (λ t. s.1 (record { is = t })))
 
 -- for the formula of the code
-pub made_means : (x : ℕ) (point : code.Point) (own : Option Polynomial) (f g : Formula) → degree x f ≤ 2 → IsPlainAndProper f → IsCanonical f → g ≡ substituted x point own f → StandsFor x point own f g
+pub made_means : (x : ℕ) (point : code.Point) (own : Option Polynomial) (f g : Formula) → degree x f ≤ 2 → IsPlainAndProper f → HasCanonicalAtoms f → g ≡ substituted x point own f → StandsFor x point own f g
 made_means x point own f g low plain canonical made = subst (λ h. StandsFor x point own f h) (sym made) (substituted_means x point own f low plain canonical)

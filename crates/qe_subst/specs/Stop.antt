@@ -11,13 +11,13 @@ use Rattle.qe_root.specs.Atoms.{atoms}
 use Rattle.qe_subst.specs.Substituted.{substituted, fault_of}
 
 -- the next number, up to the greatest of 64 bits, which no formula in a memory reaches
-abbrev pub next : ℕ → ℕ
-next n = min (n + 1) (2 ^ 64 - 1)
+abbrev pub next_number : ℕ → ℕ
+next_number n = min (n + 1) (2 ^ 64 - 1)
 
 -- the number after those of atoms of which the first has number n
-abbrev pub after : ℕ → List atom.Atom → ℕ
-after n [] = n
-after n (a ∷ rest) = after (next n) rest
+abbrev pub number_after : ℕ → List atom.Atom → ℕ
+number_after n [] = n
+number_after n (a ∷ rest) = number_after (next_number n) rest
 
 module _ (x : ℕ) (point : Point) (own : Option Polynomial) where
   -- the limit at the atom with number n
@@ -27,7 +27,7 @@ module _ (x : ℕ) (point : Point) (own : Option Polynomial) where
   -- the first limit in the order of the atoms, of which the first has number n
   abbrev pub first_limit : ℕ → List atom.Atom → Option SubstStop
   first_limit n [] = None
-  first_limit n (a ∷ rest) = elim (fault_of x point own a) [ Some fault ↦ Some (At n fault.stage fault.limit) | None ↦ first_limit (next n) rest ]
+  first_limit n (a ∷ rest) = elim (fault_of x point own a) [ Some fault ↦ Some (At n fault.stage fault.limit) | None ↦ first_limit (next_number n) rest ]
 
   -- the formula would have more than 65,536 atoms, constants counted
   abbrev pub size_limit : Formula → Option SubstStop

@@ -91,14 +91,14 @@ module _ (x : ℕ) where
   constant_below f signs =
       And (more (sign_is (coefficient_in x 2 f) equal) (more (sign_is (coefficient_in x 1 f) equal) (more (sign_is (coefficient_in x 0 f) signs) no_more)))
 
-  abbrev pub square_below : Polynomial → Signs → Formula
-  square_below f signs =
+  abbrev pub quadratic_below : Polynomial → Signs → Formula
+  quadratic_below f signs =
       Or (more (sign_is (coefficient_in x 2 f) (strict signs))
       (more (both (sign_is (coefficient_in x 2 f) equal) (sign_is (coefficient_in x 1 f) (mirror (strict signs))))
       (more (constant_below f signs) no_more)))
 
   abbrev pub at_minus_infinity : Polynomial → Signs → Formula
-  at_minus_infinity f signs = cond (is_even signs) (everywhere f signs) (cond (eqb (degree_in x f) 1) (line_below f signs) (square_below f signs))
+  at_minus_infinity f signs = cond (is_even signs) (everywhere f signs) (cond (eqb (degree_in x f) 1) (line_below f signs) (quadratic_below f signs))
 
   -- ---- just above a root
 

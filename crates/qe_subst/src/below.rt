@@ -89,8 +89,8 @@ fn constant_below(alloc: Global, x: Var, poly: &Poly, signs: Signs) -> Result<Fo
 
 /// Below all numbers a*x^2 + b*x + c has a sign of the set: a has one, or it is zero and b has the opposite of one, or both are zero
 /// and c has one.
-fn square_below(alloc: Global, x: Var, poly: &Poly, signs: Signs) -> Result<Form, OutOfMemory>
-    ensures { IfOk result (λ f. tree f ≡ spec.square_below x.0 poly.now signs) }
+fn quadratic_below(alloc: Global, x: Var, poly: &Poly, signs: Signs) -> Result<Form, OutOfMemory>
+    ensures { IfOk result (λ f. tree f ≡ spec.quadratic_below x.0 poly.now signs) }
 {
     let zero = coefficient(alloc, x, poly, 2, equal())?;
     let turned = coefficient(alloc, x, poly, 1, strict(signs).mirror())?;
@@ -119,6 +119,6 @@ pub fn below(
     } else if degree == 1 {
         line_below(alloc, x, poly, signs)
     } else {
-        square_below(alloc, x, poly, signs)
+        quadratic_below(alloc, x, poly, signs)
     }
 }

@@ -7,9 +7,8 @@ ghost use Rattle.qe_form.specs.Signs.{IsProper};
 ghost use Rattle.qe_form.specs.Tree.{tree, trees};
 ghost use Rattle.qe_poly.specs.Coefficients.{degree_in};
 ghost use Rattle.qe_poly.specs.Polynomial.{IsPolynomial};
-ghost use Rattle.qe_root.specs.Atoms.{atoms, atoms_of};
+ghost use Rattle.qe_root.specs.Atoms.{atoms, atoms_of, HasCanonicalAtoms, HaveCanonicalAtoms};
 ghost use Rattle.qe_root.specs.Holds.{StandsFor};
-ghost use Rattle.qe_subst.specs.Canonical.{IsCanonical, AreCanonical};
 ghost use Rattle.qe_subst.specs.Fault as fault;
 ghost use Rattle.qe_subst.specs.Left.{IsLeft};
 ghost use Rattle.qe_subst.specs.Stop as meaning;
@@ -37,9 +36,9 @@ impl TestPoint<'_> {
     fn for_atom(&self, alloc: Global, atom: &Atom) -> Result<Form, AtomStop>
         requires degree { degree_in self.now.x.0 atom.now.poly ≤ 2 }
         requires proper { IsProper atom.now.signs }
-        ensures made { fault.IsOutcome
-            (spec.fault_of self.now.x.0 self.now.point.now (option_copied self.now.own) atom.now)
-            (λ f. tree f ≡ spec.for_atom self.now.x.0 self.now.point.now (option_copied self.now.own) atom.now) result }
+        ensures made { let t = self.now in fault.IsOutcome
+            (spec.fault_of t.x.0 t.point.now (option_copied t.own) atom.now)
+            (λ f. tree f ≡ spec.for_atom t.x.0 t.point.now (option_copied t.own) atom.now) result }
         ensures canonical { IsPolynomial atom.now.poly }
     {
         let degree = atom.poly.degree_in(self.x);
@@ -60,10 +59,10 @@ impl TestPoint<'_> {
     fn numbered(&self, alloc: Global, atom: &Atom, number: &mut u64) -> Result<Form, SubstStop>
         requires degree { degree_in self.now.x.0 atom.now.poly ≤ 2 }
         requires proper { IsProper atom.now.signs }
-        ensures made { meaning.IsOutcome
-            (meaning.limit_at self.now.x.0 self.now.point.now (option_copied self.now.own) number.old atom.now)
-            (λ g. tree g ≡ spec.for_atom self.now.x.0 self.now.point.now (option_copied self.now.own) atom.now) result }
-        ensures number { IfOk result (λ _. number.new ≡ meaning.next number.old) }
+        ensures made { let t = self.now in meaning.IsOutcome
+            (meaning.limit_at t.x.0 t.point.now (option_copied t.own) number.old atom.now)
+            (λ g. tree g ≡ spec.for_atom t.x.0 t.point.now (option_copied t.own) atom.now) result }
+        ensures number { IfOk result (λ _. number.new ≡ meaning.next_number number.old) }
         ensures canonical { IsPolynomial atom.now.poly }
     {
         match self.for_atom(alloc, atom) {
@@ -85,12 +84,11 @@ impl TestPoint<'_> {
     fn substituted(&self, alloc: Global, form: &Form, number: &mut u64) -> Result<Form, SubstStop>
         requires degree { degree self.now.x.0 (tree form.now) ≤ 2 }
         requires plain { IsPlainAndProper (tree form.now) }
-        ensures made { let fs = atoms (tree form.now) in meaning.IsOutcome
-            (meaning.first_limit self.now.x.0 self.now.point.now (option_copied self.now.own) number.old fs)
-            (λ g. tree g
-            ≡ spec.substituted self.now.x.0 self.now.point.now (option_copied self.now.own) (tree form.now)) result }
-        ensures number { IfOk result (λ _. number.new ≡ meaning.after number.old (atoms (tree form.now))) }
-        ensures canonical { IfOk result (λ _. IsCanonical (tree form.now)) }
+        ensures made { let t = self.now in let f = tree form.now in meaning.IsOutcome
+            (meaning.first_limit t.x.0 t.point.now (option_copied t.own) number.old (atoms f))
+            (λ g. tree g ≡ spec.substituted t.x.0 t.point.now (option_copied t.own) f) result }
+        ensures number { IfOk result (λ _. number.new ≡ meaning.number_after number.old (atoms (tree form.now))) }
+        ensures canonical { IfOk result (λ _. HasCanonicalAtoms (tree form.now)) }
     {
         match form {
             Form::True => Ok(Form::True),
@@ -116,12 +114,11 @@ impl TestPoint<'_> {
     ) -> Result<Forms, SubstStop>
         requires degree { degree_of_some self.now.x.0 (trees forms.now) ≤ 2 }
         requires plain { ArePlainWith (λ a. IsProper a.signs) (trees forms.now) }
-        ensures made { let fs = atoms_of (trees forms.now) in meaning.IsOutcome
-            (meaning.first_limit self.now.x.0 self.now.point.now (option_copied self.now.own) number.old fs)
-            (λ gs. trees gs
-            ≡ spec.substituted_each self.now.x.0 self.now.point.now (option_copied self.now.own) (trees forms.now)) result }
-        ensures number { IfOk result (λ _. number.new ≡ meaning.after number.old (atoms_of (trees forms.now))) }
-        ensures canonical { IfOk result (λ _. AreCanonical (trees forms.now)) }
+        ensures made { let t = self.now in let fs = trees forms.now in meaning.IsOutcome
+            (meaning.first_limit t.x.0 t.point.now (option_copied t.own) number.old (atoms_of fs))
+            (λ gs. trees gs ≡ spec.substituted_each t.x.0 t.point.now (option_copied t.own) fs) result }
+        ensures number { IfOk result (λ _. number.new ≡ meaning.number_after number.old (atoms_of (trees forms.now))) }
+        ensures canonical { IfOk result (λ _. HaveCanonicalAtoms (trees forms.now)) }
     {
         let mut made = Sequence::new(alloc);
         for form in forms.items() {

@@ -68,9 +68,9 @@ impl TestRoot<'_> {
     /// The parts A and B of the polynomial's value at the root.
     fn parts(&self, alloc: Global, poly: &Poly) -> Result<(Poly, Poly), AtomStop>
         requires { degree_in self.now.x.0 poly.now ≤ 2 }
-        ensures { IsOutcome (in_stage stage.Root (value.value_limit poly.now self.now.x.0 self.now.root.now))
-            (λ parts. (parts.0 ≡ value.plain_part_of poly.now self.now.x.0 self.now.root.now)
-            × (parts.1 ≡ value.root_part_of poly.now self.now.x.0 self.now.root.now)) result }
+        ensures { let t = self.now in IsOutcome (in_stage stage.Root (value.value_limit poly.now t.x.0 t.root.now))
+            (λ parts. (parts.0 ≡ value.plain_part_of poly.now t.x.0 t.root.now)
+            × (parts.1 ≡ value.root_part_of poly.now t.x.0 t.root.now)) result }
     {
         match at_root(alloc, poly, self.x, self.root) {
             Ok(parts) => Ok(parts),
@@ -94,9 +94,9 @@ impl TestRoot<'_> {
     pub fn at(&self, alloc: Global, poly: &Poly, signs: Signs) -> Result<Form, AtomStop>
         requires degree { degree_in self.now.x.0 poly.now ≤ 2 }
         requires proper { IsProper signs }
-        ensures { IsOutcome
-            (spec.at_root_fault self.now.x.0 (option_copied self.now.own) self.now.root.now poly.now signs)
-            (λ f. tree f ≡ spec.at_root self.now.x.0 (option_copied self.now.own) self.now.root.now poly.now signs) result }
+        ensures { let t = self.now in IsOutcome
+            (spec.at_root_fault t.x.0 (option_copied t.own) t.root.now poly.now signs)
+            (λ f. tree f ≡ spec.at_root t.x.0 (option_copied t.own) t.root.now poly.now signs) result }
     {
         if self.is_own(poly) {
             return Ok(constant(signs.has_zero()));
@@ -109,12 +109,12 @@ impl TestRoot<'_> {
     fn at_both(&self, alloc: Global, poly: &Poly, signs: Signs) -> Result<AtRoot, AtomStop>
         requires degree { degree_in self.now.x.0 poly.now ≤ 2 }
         requires proper { IsProper (spec.strict signs) }
-        ensures { IsOutcome
-            (spec.at_both_fault self.now.x.0 (option_copied self.now.own) self.now.root.now poly.now signs)
+        ensures { let t = self.now in IsOutcome
+            (spec.at_both_fault t.x.0 (option_copied t.own) t.root.now poly.now signs)
             (λ at. (tree at.unequal
-            ≡ spec.at_root self.now.x.0 (option_copied self.now.own) self.now.root.now poly.now (spec.strict signs))
+            ≡ spec.at_root t.x.0 (option_copied t.own) t.root.now poly.now (spec.strict signs))
             × (tree at.zero
-            ≡ spec.at_root self.now.x.0 (option_copied self.now.own) self.now.root.now poly.now sets.equal)) result }
+            ≡ spec.at_root t.x.0 (option_copied t.own) t.root.now poly.now sets.equal)) result }
     {
         if self.is_own(poly) {
             return Ok(AtRoot {
@@ -135,9 +135,9 @@ impl TestRoot<'_> {
         requires canonical { IsPolynomial poly.now }
         requires degree { degree_in self.now.x.0 poly.now ≤ 2 }
         requires proper { IsProper (spec.strict signs) }
-        ensures { let n = suc (degree_in self.now.x.0 (derivative self.now.x.0 poly.now)) in IsOutcome
-            (spec.near_fault self.now.x.0 (option_copied self.now.own) self.now.root.now n poly.now signs)
-            (λ f. tree f ≡ spec.near self.now.x.0 (option_copied self.now.own) self.now.root.now n poly.now signs) result }
+        ensures { let t = self.now in let n = suc (degree_in t.x.0 (derivative t.x.0 poly.now)) in IsOutcome
+            (spec.near_fault t.x.0 (option_copied t.own) t.root.now n poly.now signs)
+            (λ f. tree f ≡ spec.near t.x.0 (option_copied t.own) t.root.now n poly.now signs) result }
     {
         let at = self.at_both(alloc, poly, signs)?;
         let derivative = derivative(alloc, self.x, poly)?;
@@ -155,9 +155,9 @@ impl TestRoot<'_> {
     ) -> Result<Form, AtomStop>
         requires degree { degree_in self.now.x.0 derivative ≤ 2 }
         requires proper { IsProper (spec.strict signs) }
-        ensures { let n = degree_in self.now.x.0 derivative in IsOutcome
-            (spec.near_fault self.now.x.0 (option_copied self.now.own) self.now.root.now n derivative signs)
-            (λ f. tree f ≡ spec.near self.now.x.0 (option_copied self.now.own) self.now.root.now n derivative signs) result }
+        ensures { let t = self.now in let n = degree_in t.x.0 derivative in IsOutcome
+            (spec.near_fault t.x.0 (option_copied t.own) t.root.now n derivative signs)
+            (λ f. tree f ≡ spec.near t.x.0 (option_copied t.own) t.root.now n derivative signs) result }
     {
         if derivative.degree_in(self.x) == 0 {
             return Ok(sign_is(derivative, signs));
@@ -179,9 +179,9 @@ impl TestRoot<'_> {
         requires positive { 0 < degree }
         requires at_most { degree ≤ 2 }
         requires proper { IsProper signs }
-        ensures { IsOutcome
-            (spec.above_root_fault self.now.x.0 (option_copied self.now.own) self.now.root.now poly.now signs)
-            (λ f. tree f ≡ spec.above_root self.now.x.0 (option_copied self.now.own) self.now.root.now poly.now signs) result }
+        ensures { let t = self.now in IsOutcome
+            (spec.above_root_fault t.x.0 (option_copied t.own) t.root.now poly.now signs)
+            (λ f. tree f ≡ spec.above_root t.x.0 (option_copied t.own) t.root.now poly.now signs) result }
     {
         if is_even(signs) {
             return Ok(everywhere(alloc, self.x, poly, degree, signs)?);
