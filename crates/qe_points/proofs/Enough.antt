@@ -16,12 +16,12 @@ use Rattle.qe_poly.specs.Coefficients.{degree_in}
 use Rattle.qe_form.specs.declared.form.Atom as atom
 use Rattle.qe_form.specs.Formula.{Formula, Formulas, True, False, Atom, And, Or, Ex, no_more, more}
 use Rattle.qe_form.specs.Measures.{degree, degree_of_some}
-use Rattle.qe_form.specs.Plain.{IsPlain, IsPlainWith, ArePlainWith}
+use Rattle.qe_form.specs.Plain.{IsPlain, ArePlainWith}
 use Rattle.qe_form.specs.Same.{OccursInSome, IsFree, IsFreeInSome}
 use Rattle.qe_form.specs.Truth.{Is}
 use Rattle.qe_form.proofs.TwoSides.{never_both, decided}
 use Rattle.qe_simp.proofs.Shapes.{plain_no_quantifier}
-use Rattle.qe_root.specs.Atoms.{atoms, atoms_of}
+use Rattle.qe_root.specs.Atoms.{atoms, atoms_of, HasCanonicalAtoms, HaveCanonicalAtoms}
 use Rattle.qe_root.specs.Holds.{StandsAt, IsLess}
 use Rattle.qe_points.specs.declared.candidate.Which.{Which}
 use Rattle.qe_points.specs.declared.candidate.Which.TheVariants.{Linear, Upper, Lower}
@@ -289,7 +289,7 @@ candidates_complete x f plain low canonical = complete_list x f (candidates x f)
 
 -- a plain formula whose atoms are over canonical polynomials is over these
 mutual
-  plain_over : (f : Formula) → IsPlain f → ((a : atom.Atom) → IsIn a (atoms f) → IsPolynomial a.poly) → IsPlainWith (λ a. IsPolynomial a.poly) f
+  plain_over : (f : Formula) → IsPlain f → ((a : atom.Atom) → IsIn a (atoms f) → IsPolynomial a.poly) → HasCanonicalAtoms f
   plain_over True plain over = tt
   plain_over False plain over = tt
   plain_over (Atom a) plain over = over a (inl refl)
@@ -297,7 +297,7 @@ mutual
   plain_over (Or fs) plain over = plain_over_each fs plain over
   plain_over f plain over = absurd plain
 
-  plain_over_each : (fs : Formulas) → ArePlainWith (λ a. Unit {0}) fs → ((a : atom.Atom) → IsIn a (atoms_of fs) → IsPolynomial a.poly) → ArePlainWith (λ a. IsPolynomial a.poly) fs
+  plain_over_each : (fs : Formulas) → ArePlainWith (λ a. Unit {0}) fs → ((a : atom.Atom) → IsIn a (atoms_of fs) → IsPolynomial a.poly) → HaveCanonicalAtoms fs
   plain_over_each no_more plain over = tt
   plain_over_each (more f fs) plain over =
       (plain_over f plain.0 (λ a i. over a (in_left a (atoms f) (atoms_of fs) i)), plain_over_each fs plain.1 (λ a i. over a (in_right a (atoms f) (atoms_of fs) i)))
@@ -309,7 +309,7 @@ module _ {X : Type 0} (shown : X → atom.Atom) (f : Formula) (items : List X) (
       let r = of_map shown a items (subst (IsIn a) (sym all) i) in
       subst (λ b. IsPolynomial b.poly) r.2 (of_all (λ y. IsPolynomial (shown y).poly) items canonical r.0 r.1)
 
-  pub made_canonical : IsPlain f → IsPlainWith (λ a. IsPolynomial a.poly) f
+  pub made_canonical : IsPlain f → HasCanonicalAtoms f
   made_canonical plain = plain_over f plain each_canonical
 
   -- those that are made

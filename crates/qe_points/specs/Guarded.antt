@@ -66,14 +66,14 @@ IsItsAtom (Root f n which plus) atom = n ≡ atom
 IsItsAtom MinusInf atom = ⊥
 
 -- the first limit in the guard; want of memory may come in place of any answer
-abbrev pub IsStop : ℕ → Candidate → SubstStop → Type 0
-IsStop x c (stop.At atom step met) = (limit x c ≡ Some met) × (IsItsAtom c atom × (step ≡ stage.Guard))
-IsStop x c stop.TooLarge = ⊥
-IsStop x c stop.OutOfMemory = Unit {0}
+abbrev pub IsGuardStop : ℕ → Candidate → SubstStop → Type 0
+IsGuardStop x c (stop.At atom step met) = (limit x c ≡ Some met) × (IsItsAtom c atom × (step ≡ stage.Guard))
+IsGuardStop x c stop.TooLarge = ⊥
+IsGuardStop x c stop.OutOfMemory = Unit {0}
 
-abbrev pub IsAnswer : ℕ → Candidate → Result (Option GuardedPoint) SubstStop → Type 0
-IsAnswer x c (Ok found) = (limit x c ≡ None) × IsGuarded x c found
-IsAnswer x c (Err met) = IsStop x c met
+abbrev pub IsGuardAnswer : ℕ → Candidate → Result (Option GuardedPoint) SubstStop → Type 0
+IsGuardAnswer x c (Ok found) = (limit x c ≡ None) × IsGuarded x c found
+IsGuardAnswer x c (Err met) = IsGuardStop x c met
 
 -- ---- what the guard tells
 
@@ -106,6 +106,6 @@ is_false False = true
 is_false f = false
 
 -- the refusal for an atom: a limit in its guard
-abbrev pub stop_at : ℕ → PolyStop → SubstStop
-stop_at atom (met.Limit limit) = stop.At atom stage.Guard limit
-stop_at atom met.OutOfMemory = stop.OutOfMemory
+abbrev pub guard_stop : ℕ → PolyStop → SubstStop
+guard_stop atom (met.Limit limit) = stop.At atom stage.Guard limit
+guard_stop atom met.OutOfMemory = stop.OutOfMemory

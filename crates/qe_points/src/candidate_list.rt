@@ -3,7 +3,7 @@
 ghost use Rattle.std.specs.Prelude.{◌≡◌, ◌≤◌, ◌++◌, ◌∷◌, [], true, false, IfOk, OnOk, All, map};
 ghost use Rattle.qe_poly.specs.Polynomial.{IsPolynomial};
 ghost use Rattle.qe_form.specs.Measures.{degree};
-ghost use Rattle.qe_form.specs.Plain.{IsPlain, IsPlainWith};
+ghost use Rattle.qe_form.specs.Plain.{IsPlain};
 ghost use Rattle.qe_form.specs.Tree.{tree, trees};
 ghost use Rattle.qe_root.specs.Atoms as formula;
 ghost use Rattle.qe_points.specs.Candidates as spec;
@@ -179,7 +179,7 @@ pub fn candidates(alloc: Global, form: &Form, x: Var) -> Result<Vec<Candidate>, 
     ensures each { IfOk result (λ cs. All (IsOf x.0 (tree form.now)) cs.items) }
     ensures complete { IfOk result (λ cs. IsPlain (tree form.now) → degree x.0 (tree form.now) ≤ 2
         → IsComplete x.0 (tree form.now) cs.items) }
-    ensures canonical { IfOk result (λ _. IsPlain (tree form.now) → IsPlainWith (λ a. IsPolynomial a.poly) (tree form.now)) }
+    ensures canonical { IfOk result (λ _. IsPlain (tree form.now) → formula.HasCanonicalAtoms (tree form.now)) }
 {
     let mut atoms = Vec::new(alloc);
     gather(form, &mut atoms)?;

@@ -12,8 +12,7 @@ ghost use Rattle.qe_form.specs.Formula as formula;
 ghost use Rattle.qe_form.specs.Tree.{tree};
 ghost use Rattle.qe_root.specs.Outcome.{IsOutcome};
 ghost use Rattle.qe_points.specs.Guard as meaning;
-ghost use Rattle.qe_points.specs.Guarded.{HasRoot, IsGuardedBy, IsMade, IsSound, is_false, stop_at};
-ghost use Rattle.qe_points.specs.Guarded as answer;
+ghost use Rattle.qe_points.specs.Guarded.{HasRoot, IsGuardedBy, IsMade, IsSound, IsGuardAnswer, is_false, guard_stop};
 
 use crate::{Candidate, Form, OutOfMemory, Point, Poly, RootPoint, Stage, SubstStop, Var, Which};
 use qe_coef::Coef;
@@ -198,7 +197,7 @@ fn guarded_root(
 
 /// The refusal for the atom.
 fn stopped(atom: u64, stop: PolyStop) -> SubstStop
-    ensures { result ≡ stop_at atom stop }
+    ensures { result ≡ guard_stop atom stop }
 {
     match stop {
         PolyStop::Limit(limit) => SubstStop::At {
@@ -228,7 +227,7 @@ pub fn guarded(
     x: Var,
 ) -> Result<Option<GuardedPoint>, SubstStop>
     requires { HasRoot x.0 candidate.now }
-    ensures exact { answer.IsAnswer x.0 candidate.now result }
+    ensures exact { IsGuardAnswer x.0 candidate.now result }
     ensures sound { IfOk result (λ found. IfSome found (λ g. IsSound x.0 candidate.now (tree g.guard) g.point)) }
 {
     match candidate {
