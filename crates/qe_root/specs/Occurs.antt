@@ -1,6 +1,6 @@
 -- Which variables occur in a point.
 use Rattle.std.specs.Prelude.{ℕ, ◌⊎◌}
-use Rattle.qe_form.specs.Same.{OccursInSome}
+use Rattle.qe_poly.specs.Occurs.{OccursInSome}
 use Rattle.qe_root.specs.declared.point.RootPoint.{RootPoint}
 use Rattle.qe_root.specs.declared.point.Point.{Point}
 use Rattle.qe_root.specs.declared.point.Point.TheVariants.{Root, RootPlus, MinusInf}
