@@ -19,7 +19,7 @@ use Rattle.qe_form.specs.Tree.{tree}
 use Rattle.qe_form.specs.Value.{value}
 use Rattle.qe_form.specs.Truth.{has_sign, Is}
 use Rattle.qe_form.proofs.Values.{value_of_negative, value_of_product}
-use Rattle.qe_root.specs.Outcome.{IsOutcome}
+use Rattle.qe_halt.specs.Outcome.{IsOutcome}
 use Rattle.qe_root.specs.Shape.{Shape, atom, conjunction, disjunction, formula, is_met}
 use Rattle.qe_form.specs.Signs.{IsProper}
 use Rattle.qe_root.specs.SignForm.{sign_shape, side_shape, zero_shape, norm, sign_formula, IsSquareRoot, IsSignForm}

@@ -1,4 +1,4 @@
-pub mod Outcome
+pub mod Stops
 pub mod Value
 pub mod Shape
 pub mod SignForm

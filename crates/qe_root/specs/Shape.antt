@@ -3,7 +3,8 @@ use Rattle.std.specs.Prelude.{Bool, ◌&&◌, ◌||◌}
 use Rattle.qe_ring.specs.Sign.{Sign}
 use Rattle.qe_poly.specs.Polynomial.{Polynomial}
 use Rattle.qe_form.specs.declared.signs.Signs.{Signs}
-use Rattle.qe_form.specs.Formula.{Formula, Atom, And, Or, no_more, more}
+use Rattle.qe_form.specs.Formula.{Formula}
+use Rattle.qe_form.specs.Making.{atomic, both, either}
 use Rattle.qe_form.specs.Truth.{has_sign}
 
 -- an atom has an X and the signs that it may have
@@ -14,9 +15,9 @@ pub data Shape (X : Type 0) : Type 0 where
 
 -- over polynomials it is a formula
 abbrev pub formula : Shape Polynomial → Formula
-formula (atom p signs) = Atom (record { poly = p; signs = signs })
-formula (conjunction f g) = And (more (formula f) (more (formula g) no_more))
-formula (disjunction f g) = Or (more (formula f) (more (formula g) no_more))
+formula (atom p signs) = atomic p signs
+formula (conjunction f g) = both (formula f) (formula g)
+formula (disjunction f g) = either (formula f) (formula g)
 
 -- over signs it is met or not
 abbrev pub is_met : Shape Sign → Bool

@@ -1,6 +1,6 @@
 -- The formula that says of the sign of A + B*sqrt(r) that it is in a set, without the square root: by the signs of A, B, A*B and
 -- N = A^2 - B^2*r.
-use Rattle.std.specs.Prelude.{◌≡◌, ◌↔◌, Bool, true, false, cond, [], ◌∷◌, Option, None}
+use Rattle.std.specs.Prelude.{◌≡◌, ◌↔◌, Bool, cond, [], ◌∷◌, Option, None}
 use Rattle.qe_coef.specs.declared.Op.TheVariants.{Sub}
 use Rattle.qe_ring.specs.Sign.{IsNotMinus}
 use Rattle.qe_tower.specs.Number.{Number, IsNumber, sign_of, add, mul, Equal}
@@ -8,52 +8,31 @@ use Rattle.qe_tower.specs.Point.{Point, IsPoint}
 use Rattle.qe_poly.specs.declared.limit.PolyLimit.{PolyLimit}
 use Rattle.qe_poly.specs.Polynomial.{Polynomial, negative, difference, product}
 use Rattle.qe_poly.specs.Limits.{sum_limit, product_limit}
+use Rattle.qe_poly.specs.Numbers.{is_zero}
+use Rattle.qe_halt.specs.Outcome.{first}
 use Rattle.qe_form.specs.declared.signs.Signs.{Signs}
+use Rattle.qe_form.specs.Signs.{less, less_or_equal, equal, not_equal, greater_or_equal, greater, is_even}
 use Rattle.qe_form.specs.Formula.{Formula}
 use Rattle.qe_form.specs.Value.{value}
 use Rattle.qe_form.specs.Truth.{has_sign, Is}
-use Rattle.qe_root.specs.Outcome.{first, is_zero}
 use Rattle.qe_root.specs.Value.{triple, triple_limit}
 use Rattle.qe_root.specs.Shape.{Shape, atom, conjunction, disjunction, formula}
-
--- ---- sets of signs
-
-abbrev pub less : Signs
-less = record { minus = true; zero = false; plus = false }
-
-abbrev pub at_most : Signs
-at_most = record { minus = true; zero = true; plus = false }
-
-abbrev pub equal : Signs
-equal = record { minus = false; zero = true; plus = false }
-
-abbrev pub not_equal : Signs
-not_equal = record { minus = true; zero = false; plus = true }
-
-abbrev pub at_least : Signs
-at_least = record { minus = false; zero = true; plus = true }
-
-abbrev pub more : Signs
-more = record { minus = false; zero = false; plus = true }
-
-abbrev pub is_even : Signs → Bool
-is_even signs = cond signs.minus signs.plus (cond signs.plus false true)
 
 -- ---- the shapes
 
 -- A + B*sqrt(r) = 0: A and B have no common sign, and A^2 = B^2*r
 abbrev pub equal_shape : {X : Type 0} → (e n : X) → Shape X
-equal_shape e n = conjunction (atom e at_most) (atom n equal)
+equal_shape e n = conjunction (atom e less_or_equal) (atom n equal)
 
 abbrev pub not_equal_shape : {X : Type 0} → (e n : X) → Shape X
-not_equal_shape e n = disjunction (atom e more) (atom n not_equal)
+not_equal_shape e n = disjunction (atom e greater) (atom n not_equal)
 
 -- A + B*sqrt(r) <= 0: A is not positive and counts for no less, or B is not positive and counts for no less
 abbrev pub at_most_shape : {X : Type 0} → (a b n : X) → Shape X
-at_most_shape a b n = disjunction (conjunction (atom a at_most) (atom n at_least)) (conjunction (atom b at_most) (atom n at_most))
+at_most_shape a b n = disjunction (conjunction (atom a less_or_equal) (atom n greater_or_equal)) (conjunction (atom b less_or_equal) (atom n less_or_equal))
 
 abbrev pub less_shape : {X : Type 0} → (a b n : X) → Shape X
-less_shape a b n = disjunction (conjunction (atom a less) (atom n more)) (conjunction (atom b at_most) (disjunction (atom a less) (atom n less)))
+less_shape a b n = disjunction (conjunction (atom a less) (atom n greater)) (conjunction (atom b less_or_equal) (disjunction (atom a less) (atom n less)))
 
 -- `=` where zero is in the set, and else `<>`
 abbrev pub zero_shape : {X : Type 0} → (zero : Bool) → (e n : X) → Shape X

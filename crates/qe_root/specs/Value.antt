@@ -9,9 +9,10 @@ use Rattle.qe_poly.specs.Polynomial.{Polynomial, sum, product}
 use Rattle.qe_poly.specs.Coefficients.{coefficient_in}
 use Rattle.qe_poly.specs.Value.{scaled}
 use Rattle.qe_poly.specs.Limits.{sum_limit, product_limit, scale_limit}
+use Rattle.qe_poly.specs.Numbers.{is_zero}
+use Rattle.qe_halt.specs.Outcome.{first}
 use Rattle.qe_form.specs.Value.{value}
 use Rattle.qe_root.specs.declared.point.RootPoint.{RootPoint}
-use Rattle.qe_root.specs.Outcome.{first, is_zero}
 
 -- ---- the polynomials
 

@@ -1,56 +1,27 @@
 //! The formula for the sign of `A + B*sqrt(r)`, by the signs of `A`, `B`, `A*B` and `N = A^2 - B^2*r`.
 
-ghost use Rattle.std.specs.Prelude.{◌≡◌, cond, IfOk};
+ghost use Rattle.std.specs.Prelude.{◌≡◌, IfOk};
 ghost use Rattle.qe_poly.specs.Polynomial as spec;
-ghost use Rattle.qe_halt.specs.Outcome.{IsAnswer};
+ghost use Rattle.qe_halt.specs.Outcome.{IsAnswer, IsOutcome};
 ghost use Rattle.qe_form.specs.Signs.{IsProper};
 ghost use Rattle.qe_form.specs.Tree.{tree};
-ghost use Rattle.qe_form.specs.Formula as formula;
-ghost use Rattle.qe_root.specs.Outcome.{IsOutcome};
 ghost use Rattle.qe_root.specs.Shape as shape;
 ghost use Rattle.qe_root.specs.SignForm as meaning;
 
-use crate::value::{is_zero, triple};
-use crate::{Atom, Form, OutOfMemory, Poly, PolyStop, Sequence, Signs};
+use crate::value::triple;
+use crate::{Form, OutOfMemory, Poly, PolyStop, Signs};
 use std::alloc::Global;
-
-/// The atom that the polynomial's sign is in the set.
-fn atom(poly: Poly, signs: Signs) -> Form
-    ensures { tree result ≡ formula.Atom (record { poly = poly; signs = signs }) }
-{
-    Form::Atom(Atom { poly, signs })
-}
-
-/// The `And` of two formulas.
-fn both(alloc: Global, left: Form, right: Form) -> Result<Form, OutOfMemory>
-    ensures { IfOk result (λ f. tree f ≡ formula.And (formula.more (tree left) (formula.more (tree right) formula.no_more))) }
-{
-    let mut parts = Sequence::new(alloc);
-    parts.push(left)?;
-    parts.push(right)?;
-    Ok(Form::And(parts))
-}
-
-/// The `Or` of two formulas.
-fn either(alloc: Global, left: Form, right: Form) -> Result<Form, OutOfMemory>
-    ensures { IfOk result (λ f. tree f ≡ formula.Or (formula.more (tree left) (formula.more (tree right) formula.no_more))) }
-{
-    let mut parts = Sequence::new(alloc);
-    parts.push(left)?;
-    parts.push(right)?;
-    Ok(Form::Or(parts))
-}
 
 /// The formula for `=`, or that for `<>`, from `A*B` and `N`.
 fn zero_form(alloc: Global, product: Poly, norm: Poly, signs: Signs) -> Result<Form, OutOfMemory>
     ensures { IfOk result (λ f. tree f ≡ shape.formula (meaning.zero_shape signs.zero product norm)) }
 {
     if signs.has_zero() {
-        let at_most = atom(product, Signs::of(true, true, false));
-        both(alloc, at_most, atom(norm, Signs::of(false, true, false)))
+        let apart = Form::atom(product, Signs::LESS_OR_EQUAL);
+        Form::both(alloc, apart, Form::atom(norm, Signs::EQUAL))
     } else {
-        let more = atom(product, Signs::of(false, false, true));
-        either(alloc, more, atom(norm, Signs::of(true, false, true)))
+        let alike = Form::atom(product, Signs::GREATER);
+        Form::either(alloc, alike, Form::atom(norm, Signs::NOT_EQUAL))
     }
 }
 
@@ -58,23 +29,23 @@ fn zero_form(alloc: Global, product: Poly, norm: Poly, signs: Signs) -> Result<F
 fn at_most_form(alloc: Global, plain: Poly, root: Poly, norm: Poly) -> Result<Form, OutOfMemory>
     ensures { IfOk result (λ f. tree f ≡ shape.formula (meaning.at_most_shape plain root norm)) }
 {
-    let at_most = Signs::of(true, true, false);
-    let at_least = atom(norm.copy(alloc)?, Signs::of(false, true, true));
-    let by_plain = both(alloc, atom(plain, at_most), at_least)?;
-    let by_root = both(alloc, atom(root, at_most), atom(norm, at_most))?;
-    either(alloc, by_plain, by_root)
+    let at_most = Signs::LESS_OR_EQUAL;
+    let at_least = Form::atom(norm.copy(alloc)?, Signs::GREATER_OR_EQUAL);
+    let by_plain = Form::both(alloc, Form::atom(plain, at_most), at_least)?;
+    let by_root = Form::both(alloc, Form::atom(root, at_most), Form::atom(norm, at_most))?;
+    Form::either(alloc, by_plain, by_root)
 }
 
 /// The formula for `<`, from `A`, `B` and `N`.
 fn less_form(alloc: Global, plain: Poly, root: Poly, norm: Poly) -> Result<Form, OutOfMemory>
     ensures { IfOk result (λ f. tree f ≡ shape.formula (meaning.less_shape plain root norm)) }
 {
-    let less = Signs::of(true, false, false);
-    let more = atom(norm.copy(alloc)?, Signs::of(false, false, true));
-    let by_plain = both(alloc, atom(plain.copy(alloc)?, less), more)?;
-    let rest = either(alloc, atom(plain, less), atom(norm, less))?;
-    let by_root = both(alloc, atom(root, Signs::of(true, true, false)), rest)?;
-    either(alloc, by_plain, by_root)
+    let less = Signs::LESS;
+    let more = Form::atom(norm.copy(alloc)?, Signs::GREATER);
+    let by_plain = Form::both(alloc, Form::atom(plain.copy(alloc)?, less), more)?;
+    let rest = Form::either(alloc, Form::atom(plain, less), Form::atom(norm, less))?;
+    let by_root = Form::both(alloc, Form::atom(root, Signs::LESS_OR_EQUAL), rest)?;
+    Form::either(alloc, by_plain, by_root)
 }
 
 /// `N = A^2 - B^2*r`.
@@ -136,12 +107,6 @@ fn one_sided_form(
     }
 }
 
-fn is_even(signs: Signs) -> bool
-    ensures { result ≡ meaning.is_even signs }
-{
-    signs.has_minus() == signs.has_plus()
-}
-
 /// The formula stating that the sign of `a + b*sqrt(r)` is in the set, wherever `r` is not negative; after Weispfenning (1997). The
 /// set is neither empty nor full. Where `b` is 0 the formula is the atom of `a`. Else, with `N = a^2 - b^2*r`, it is
 ///
@@ -164,10 +129,9 @@ pub fn sign_form(
         (λ f. tree f ≡ meaning.sign_formula a.now b.now r.now signs) result }
     ensures truth { IfOk result (λ f. meaning.IsSignForm a.now b.now r.now signs (tree f)) }
 {
-    if is_zero(b) {
-        return Ok(atom(a.copy(alloc)?, signs));
-    }
-    if is_even(signs) {
+    if b.is_zero() {
+        Ok(Form::atom(a.copy(alloc)?, signs))
+    } else if signs.is_even() {
         two_sided_form(alloc, a, b, r, signs)
     } else {
         one_sided_form(alloc, a, b, r, signs)

@@ -2,30 +2,15 @@
 
 ghost use Rattle.std.specs.Prelude.{ℤ, pos, ◌≡◌, ◌≤◌, IfOk};
 ghost use Rattle.qe_poly.specs.Polynomial as spec;
-ghost use Rattle.qe_halt.specs.Outcome.{IsAnswer};
+ghost use Rattle.qe_halt.specs.Outcome.{IsAnswer, IsOutcome};
 ghost use Rattle.qe_poly.specs.Value.{scaled};
 ghost use Rattle.qe_poly.specs.Coefficients.{degree_in};
-ghost use Rattle.qe_root.specs.Outcome.{IsOutcome, is_zero};
 ghost use Rattle.qe_root.specs.Value as meaning;
 
 use crate::point::RootPoint;
 use qe_coef::Coef;
 use qe_poly::{Poly, PolyStop, Var};
 use std::alloc::Global;
-
-/// Whether the polynomial is 0.
-pub fn is_zero(poly: &Poly) -> bool
-    ensures { result ≡ is_zero poly.now }
-{
-    poly.terms().is_empty()
-}
-
-/// The number 2.
-fn two() -> Coef
-    ensures { result ≡ pos 2 }
-{
-    Coef::of(2).unwrap_or(Coef::zero())
-}
 
 /// The product of three polynomials, from the left.
 pub fn triple(alloc: Global, a: &Poly, b: &Poly, c: &Poly) -> Result<Poly, PolyStop>
@@ -47,7 +32,7 @@ fn square(alloc: Global, point: &RootPoint) -> Result<Poly, PolyStop>
 fn quadratic_term(alloc: Global, alpha: &Poly, point: &RootPoint) -> Result<Poly, PolyStop>
     ensures { IsAnswer (meaning.quadratic_term_limit alpha.now point.now) (spec.product alpha.now (meaning.square point.now)) result }
 {
-    if is_zero(alpha) {
+    if alpha.is_zero() {
         return Ok(Poly::constant(alloc, Coef::zero())?);
     }
     alpha.mul(alloc, &square(alloc, point)?)
@@ -57,10 +42,10 @@ fn quadratic_term(alloc: Global, alpha: &Poly, point: &RootPoint) -> Result<Poly
 fn double_term(alloc: Global, alpha: &Poly, point: &RootPoint) -> Result<Poly, PolyStop>
     ensures { IsAnswer (meaning.double_term_limit alpha.now point.now) (scaled (pos 2) (meaning.triple alpha.now point.now.p point.now.q)) result }
 {
-    if is_zero(alpha) {
+    if alpha.is_zero() {
         return Ok(Poly::constant(alloc, Coef::zero())?);
     }
-    triple(alloc, alpha, &point.p, &point.q)?.scale(alloc, two())
+    triple(alloc, alpha, &point.p, &point.q)?.scale(alloc, Coef::small(2))
 }
 
 /// `A = alpha*(p^2 + q^2*r) + beta*p*s + gamma*s^2`, with all terms before the sums.

@@ -1,12 +1,12 @@
 use Rattle.std.proofs.Common.{◌≡◌, rules}
 use Rattle.qe_form.specs.Tree.{tree}
-use Rattle.qe_root.specs.Outcome.{IsOutcome}
+use Rattle.qe_halt.specs.Outcome.{IsOutcome}
 use Rattle.qe_root.specs.SignForm.{sign_limit, sign_formula}
 use Rattle.qe_root.proofs.SignTruth.{form_is, answer_is}
 use Rattle.qe_root.proofs.form.sign_form.Goals as goal
 
-pub returns-then-is_zero-clause-truth : goal.returns-then-is_zero-clause-truth
-returns-then-is_zero-clause-truth c =
+pub returns-in_ok-copy-clause-truth : goal.returns-in_ok-copy-clause-truth
+returns-in_ok-copy-clause-truth c =
     let same : tree c.atom.result ≡ sign_formula c.args.a.now c.args.b.now c.args.r.now c.args.signs = search rules in
     form_is c.args.a.now c.args.b.now c.args.r.now c.args.signs (tree c.atom.result) c.requires same
 
