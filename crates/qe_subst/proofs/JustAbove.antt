@@ -18,16 +18,16 @@ use Rattle.qe_poly.specs.Polynomial.{Polynomial, IsPolynomial}
 use Rattle.qe_poly.specs.Coefficients.{degree_in, coefficient_in, derivative}
 use Rattle.qe_poly.specs.Value.{scaled}
 use Rattle.qe_poly.proofs.Derivatives.{IsPolynomial-derivative}
+use Rattle.qe_form.specs.Making.{both}
 use Rattle.qe_form.specs.declared.signs.Signs.{Signs}
-use Rattle.qe_form.specs.Signs.{IsProper}
+use Rattle.qe_form.specs.Signs.{IsProper, equal, strict}
 use Rattle.qe_form.specs.Value.{value}
 use Rattle.qe_form.specs.Truth.{has_sign}
 use Rattle.qe_form.proofs.Values.{value_valid, value_of_multiple}
 use Rattle.qe_root.specs.declared.point.RootPoint.{RootPoint}
 use Rattle.qe_root.specs.Value.{IsValue}
-use Rattle.qe_root.specs.SignForm.{equal}
 use Rattle.qe_root.specs.Holds.{OwnIsZero}
-use Rattle.qe_subst.specs.Substituted.{strict, at_root, near, both}
+use Rattle.qe_subst.specs.Substituted.{at_root, near}
 use Rattle.qe_subst.proofs.Derivatives.{degree_of_derivative, coefficient_of_derivative}
 use Rattle.qe_subst.proofs.ProperSigns.{equal_proper}
 use Rattle.qe_subst.proofs.SignTests.{near_test}

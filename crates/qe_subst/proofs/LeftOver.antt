@@ -6,35 +6,30 @@ use Rattle.qe_poly.specs.Polynomial.{Polynomial, IsPolynomial, negative, product
 use Rattle.qe_poly.specs.Coefficients.{exponent_of, degree_in, coefficient_in, lowered, derivative}
 use Rattle.qe_poly.specs.Value.{scaled}
 use Rattle.qe_poly.proofs.Derivatives.{IsPolynomial-derivative}
+use Rattle.qe_form.specs.Making.{atomic, constant}
 use Rattle.qe_form.specs.declared.form.Atom as atom
 use Rattle.qe_form.specs.declared.signs.Signs.{Signs}
+use Rattle.qe_form.specs.Signs.{equal, is_even, strict}
 use Rattle.qe_form.specs.Formula.{Formula, Formulas, True, False, Atom, And, Or, no_more, more}
 use Rattle.qe_form.specs.Same.{IsFree, IsFreeInSome}
 use Rattle.qe_poly.specs.Occurs.{OccursIn, OccursInSome}
 use Rattle.qe_root.specs.declared.point.RootPoint.{RootPoint}
 use Rattle.qe_root.specs.declared.point.Point.{Point}
 use Rattle.qe_root.specs.declared.point.Point.TheVariants.{Root, RootPlus, MinusInf}
-use Rattle.qe_root.specs.Outcome.{is_zero}
+use Rattle.qe_poly.specs.Numbers.{is_zero}
 use Rattle.qe_root.specs.Value.{triple, square, plain_part_of, root_part_of}
 use Rattle.qe_root.specs.Shape.{formula}
-use Rattle.qe_root.specs.SignForm.{equal, zero_shape, side_shape, sign_shape, sign_formula, norm}
+use Rattle.qe_root.specs.SignForm.{zero_shape, side_shape, sign_shape, sign_formula, norm}
 use Rattle.qe_root.specs.Atoms.{HasCanonicalAtoms, HaveCanonicalAtoms}
 use Rattle.qe_root.specs.Occurs.{OccursInRoot, OccursInPoint}
 use Rattle.qe_subst.specs.Left.{IsLeft}
-use Rattle.qe_subst.specs.Substituted.{strict, is_even, is_own, constant, sign_is, at_root, near, each_coefficient, everywhere, line_below, quadratic_below, at_minus_infinity, at_point, for_atom, substituted, substituted_each}
-use Rattle.qe_subst.proofs.Degrees.{coefficient_whole, occurs_coefficient, occurs_nonzero, occurs_negative, occurs_sum, occurs_product}
+use Rattle.qe_subst.specs.Substituted.{is_own, at_root, near, each_coefficient, everywhere, line_below, quadratic_below, at_minus_infinity, at_point, for_atom, substituted, substituted_each}
+use Rattle.qe_poly.proofs.Occurring.{occurs_coefficient, occurs_nonzero, occurs_negative, occurs_scaled, occurs_sum, occurs_product}
+use Rattle.qe_subst.proofs.Degrees.{coefficient_whole}
 use Rattle.qe_subst.proofs.Derivatives.{degree_of_derivative}
 
 module _ (y : ℕ) where
-  -- ---- multiples and derivatives
-
-  occurs_scaled : (c : ℤ) (q : Polynomial) → OccursInSome y (scaled c q) → OccursInSome y q
-  occurs_scaled c q h = terms q (occurs_nonzero y (map (λ t. (t.0, t.1 *ℤ c)) q) h)
-    where
-      terms : (q : Polynomial) → OccursInSome y (map (λ t. (t.0, t.1 *ℤ c)) q) → OccursInSome y q
-      terms [] h = h
-      terms (t ∷ ts) (inl h) = inl h
-      terms (t ∷ ts) (inr h) = inr (terms ts h)
+  -- ---- derivatives
 
   occurs_lowered : (x : ℕ) (m : Monomial) → OccursIn y (lowered x m) → OccursIn y m
   occurs_lowered x [] h = h
@@ -97,7 +92,7 @@ module _ (y : ℕ) where
 
     sign_from : (a b r : Polynomial) (s : Signs) → (OccursInSome y a → G) → (OccursInSome y b → G) → (OccursInSome y r → G) → IsFree y (sign_formula a b r s) → G
     sign_from a b r s ha hb hr m =
-        elim (is_zero b) as (λ t. IsFree y (cond t (sign_is a s) (formula (sign_shape negative s a b (product a b) (norm a b r)))) → G) [
+        elim (is_zero b) as (λ t. IsFree y (cond t (atomic a s) (formula (sign_shape negative s a b (product a b) (norm a b r)))) → G) [
           | true ↦ λ h. ha h
           | false ↦ λ h. shape_from s a b (product a b) (norm a b r) ha hb (product_from a b ha hb) (norm_from a b r ha hb hr) h
         ] m
@@ -166,7 +161,7 @@ module _ (y : ℕ) where
 
         root_from : OccursInSome y (root_part_of f x k) → From f
         root_from = sum_from (scaled (pos 2) (triple (coefficient_in x 2 f) k.p k.q)) (triple (coefficient_in x 1 f) k.q k.s)
-            (λ h. triple_from (coefficient_in x 2 f) k.p k.q (by_coefficient 2) by_p by_q (occurs_scaled (pos 2) (triple (coefficient_in x 2 f) k.p k.q) h))
+            (λ h. triple_from (coefficient_in x 2 f) k.p k.q (by_coefficient 2) by_p by_q (occurs_scaled y (pos 2) (triple (coefficient_in x 2 f) k.p k.q) h))
             (triple_from (coefficient_in x 1 f) k.q k.s (by_coefficient 1) by_q by_s)
 
         at_root_from : (own : Option Polynomial) (s : Signs) → IsFree y (at_root x own k f s) → From f

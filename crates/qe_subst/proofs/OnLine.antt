@@ -17,7 +17,8 @@ use Rattle.qe_poly.specs.Polynomial.{Polynomial, IsPolynomial}
 use Rattle.qe_poly.specs.Coefficients.{degree_in, coefficient_in}
 use Rattle.qe_form.specs.Value.{value}
 use Rattle.qe_form.proofs.Values.{value_valid, value_of_quadratic}
-use Rattle.qe_subst.proofs.Degrees.{coefficient_past, coefficient_whole}
+use Rattle.qe_poly.proofs.Occurring.{coefficient_past}
+use Rattle.qe_subst.proofs.Degrees.{coefficient_whole}
 
 module _ (x : ℕ) (p : Point) (valid : IsPoint p) where
   -- the point with x given a number

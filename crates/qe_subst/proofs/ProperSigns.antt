@@ -1,9 +1,7 @@
 -- Sets of signs that are neither empty nor full.
 use Rattle.std.proofs.Common.{◌≡◌, Bool, true, false, lit<}
 use Rattle.qe_form.specs.declared.signs.Signs.{Signs}
-use Rattle.qe_form.specs.Signs.{IsProper, mirror}
-use Rattle.qe_root.specs.SignForm.{equal}
-use Rattle.qe_subst.specs.Substituted.{strict, is_even}
+use Rattle.qe_form.specs.Signs.{IsProper, mirror, equal, is_even, strict}
 
 -- the signs of an inequality without zero
 pub strict_proper : (s : Signs) → IsProper s → is_even s ≡ false → IsProper (strict s)

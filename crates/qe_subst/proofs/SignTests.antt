@@ -3,10 +3,8 @@ use Rattle.std.proofs.Common.{◌≡◌, ◌∙◌, refl, sym, ap, Bool, true, f
 use Rattle.qe_ring.specs.Sign.{Sign, Minus, Zero, Plus, is, opposite}
 use Rattle.qe_line.specs.Quadratic.{first_sign}
 use Rattle.qe_form.specs.declared.signs.Signs.{Signs}
-use Rattle.qe_form.specs.Signs.{mirror}
+use Rattle.qe_form.specs.Signs.{mirror, equal, not_equal, strict}
 use Rattle.qe_form.specs.Truth.{has_sign}
-use Rattle.qe_root.specs.SignForm.{equal, not_equal}
-use Rattle.qe_subst.specs.Substituted.{strict}
 
 end_or : (b : Bool) → (b || false) ≡ b
 end_or true = refl

@@ -1,23 +1,20 @@
 -- Formulas that are true at a point where a test holds, and false where it does not.
 use Rattle.std.proofs.Common.{◌≡◌, ◌∙◌, ◌⊎◌, ◌↔◌, inl, inr, refl, sym, ap, subst, Bool, true, false, ◌&&◌, ◌||◌}
 use Rattle.qe_ring.specs.Sign.{Sign}
+use Rattle.qe_ring.proofs.Bools.{both_hold, one_fails, one_holds, neither, both_fail}
 use Rattle.qe_tower.specs.Number.{sign_of}
 use Rattle.qe_tower.specs.Point.{Point}
 use Rattle.qe_poly.specs.Polynomial.{Polynomial}
+use Rattle.qe_form.specs.Making.{atomic, both, constant, either}
 use Rattle.qe_form.specs.declared.signs.Signs.{Signs}
 use Rattle.qe_form.specs.Formula.{Formula, Formulas, And, Or, no_more, more}
 use Rattle.qe_form.specs.Value.{value}
 use Rattle.qe_form.specs.Truth.{has_sign, Is}
-use Rattle.qe_subst.specs.Substituted.{sign_is, constant, both, either}
 
 -- ---- tests
 
 and_true : (a b : Bool) → true ≡ b → true ≡ a → (a && b) ≡ true
 and_true a b right left = (λ i. sym left i && b) ∙ sym right
-
-and_parts : (a b : Bool) → (a && b) ≡ true → (a ≡ true) × (b ≡ true)
-and_parts true b holds = (refl, holds)
-and_parts false b holds = absurd (cc)
 
 and_left : (a b : Bool) → a ≡ false → (a && b) ≡ false
 and_left a b e = ap (λ c. c && b) e
@@ -26,27 +23,12 @@ and_right : (a b : Bool) → b ≡ false → (a && b) ≡ false
 and_right true b e = e
 and_right false b e = refl
 
-and_some : (a b : Bool) → (a && b) ≡ false → a ≡ false ⊎ b ≡ false
-and_some true b holds = inr holds
-and_some false b holds = inl refl
-
 or_left : (a b : Bool) → a ≡ true → (a || b) ≡ true
 or_left a b e = ap (λ c. c || b) e
 
 or_right : (a b : Bool) → b ≡ true → (a || b) ≡ true
 or_right true b e = refl
 or_right false b e = e
-
-or_some : (a b : Bool) → (a || b) ≡ true → a ≡ true ⊎ b ≡ true
-or_some true b holds = inl refl
-or_some false b holds = inr holds
-
-or_false : (a b : Bool) → a ≡ false → b ≡ false → (a || b) ≡ false
-or_false a b left right = ap (λ c. c || b) left ∙ right
-
-or_parts : (a b : Bool) → (a || b) ≡ false → (a ≡ false) × (b ≡ false)
-or_parts true b holds = absurd (cc)
-or_parts false b holds = (refl, holds)
 
 module _ (p : Point) where
   -- the formula is true where the test holds, and false where it does not
@@ -60,7 +42,7 @@ module _ (p : Point) where
   reads_constant true t = ((λ h. sym h), (λ h. sym h))
   reads_constant false t = ((λ h. sym h), (λ h. sym h))
 
-  pub reads_sign : (q : Polynomial) (s : Signs) (sign : Sign) → sign_of (value q p) ≡ sign → Reads (has_sign s sign) (sign_is q s)
+  pub reads_sign : (q : Polynomial) (s : Signs) (sign : Sign) → sign_of (value q p) ≡ sign → Reads (has_sign s sign) (atomic q s)
   reads_sign q s sign e t = ((λ h. sym (ap (has_sign s) e) ∙ h), (λ h. ap (has_sign s) e ∙ h))
 
   pub and_none : Reads true (And no_more)
@@ -70,11 +52,11 @@ module _ (p : Point) where
   pub and_more : (a b : Bool) (f : Formula) (fs : Formulas) → Reads a f → Reads b (And fs) → Reads (a && b) (And (more f fs))
   and_more a b f fs h k true = (
     (λ m. and_true a b (sym ((k true).0 m.1)) (sym ((h true).0 m.0))),
-    (λ e. let parts = and_parts a b e in ((h true).1 parts.0, (k true).1 parts.1)),
+    (λ e. let parts = both_hold a b e in ((h true).1 parts.0, (k true).1 parts.1)),
   )
   and_more a b f fs h k false = (
     (λ m. elim m [ inl l ↦ and_left a b ((h false).0 l) | inr r ↦ and_right a b ((k false).0 r) ]),
-    (λ e. elim (and_some a b e) [ inl l ↦ inl ((h false).1 l) | inr r ↦ inr ((k false).1 r) ]),
+    (λ e. elim (one_fails a b e) [ inl l ↦ inl ((h false).1 l) | inr r ↦ inr ((k false).1 r) ]),
   )
 
   pub or_none : Reads false (Or no_more)
@@ -84,11 +66,11 @@ module _ (p : Point) where
   pub or_more : (a b : Bool) (f : Formula) (fs : Formulas) → Reads a f → Reads b (Or fs) → Reads (a || b) (Or (more f fs))
   or_more a b f fs h k true = (
     (λ m. elim m [ inl l ↦ or_left a b ((h true).0 l) | inr r ↦ or_right a b ((k true).0 r) ]),
-    (λ e. elim (or_some a b e) [ inl l ↦ inl ((h true).1 l) | inr r ↦ inr ((k true).1 r) ]),
+    (λ e. elim (one_holds a b e) [ inl l ↦ inl ((h true).1 l) | inr r ↦ inr ((k true).1 r) ]),
   )
   or_more a b f fs h k false = (
-    (λ m. or_false a b ((h false).0 m.0) ((k false).0 m.1)),
-    (λ e. let parts = or_parts a b e in ((h false).1 parts.0, (k false).1 parts.1)),
+    (λ m. both_fail a b ((h false).0 m.0) ((k false).0 m.1)),
+    (λ e. let parts = neither a b e in ((h false).1 parts.0, (k false).1 parts.1)),
   )
 
   pub reads_both : (a b : Bool) (f g : Formula) → Reads a f → Reads b g → Reads (a && (b && true)) (both f g)

@@ -14,7 +14,7 @@ use Rattle.qe_poly.specs.Polynomial.{Polynomial, IsPolynomial}
 use Rattle.qe_poly.specs.Coefficients.{degree_in}
 use Rattle.qe_form.specs.declared.form.Atom as atom
 use Rattle.qe_form.specs.declared.signs.Signs.{Signs}
-use Rattle.qe_form.specs.Signs.{IsProper}
+use Rattle.qe_form.specs.Signs.{IsProper, is_even}
 use Rattle.qe_form.specs.Formula.{Formula, Formulas, True, False, Atom, And, Or, no_more, more}
 use Rattle.qe_form.specs.Measures.{degree, degree_of_some}
 use Rattle.qe_form.specs.Plain.{IsPlainAndProper, ArePlainWith}
@@ -24,7 +24,7 @@ use Rattle.qe_root.specs.declared.point.Point as code
 use Rattle.qe_root.specs.declared.point.Point.TheVariants.{Root, RootPlus, MinusInf}
 use Rattle.qe_root.specs.Holds.{StandsAt, OwnIsZero, StandsFor}
 use Rattle.qe_root.specs.Atoms.{HasCanonicalAtoms, HaveCanonicalAtoms}
-use Rattle.qe_subst.specs.Substituted.{is_even, everywhere, near, at_point, for_atom, substituted, substituted_each}
+use Rattle.qe_subst.specs.Substituted.{everywhere, near, at_point, for_atom, substituted, substituted_each}
 use Rattle.qe_subst.proofs.ProperSigns.{strict_proper}
 use Rattle.qe_subst.proofs.TestFormulas.{Reads, rereads, reads_sign}
 use Rattle.qe_subst.proofs.OnLine.{at_number, coefficient, HoldsThere, sign_at_place, sign_with, sign_there, sign_stays}

@@ -2,11 +2,10 @@
 
 ghost use Rattle.std.specs.Prelude.{◌≡◌, ◌≤◌, ◌<◌, IfOk};
 ghost use Rattle.qe_poly.specs.Coefficients.{degree_in, coefficient_in};
+ghost use Rattle.qe_form.specs.Making as making;
 ghost use Rattle.qe_form.specs.Tree.{tree, trees};
 ghost use Rattle.qe_subst.specs.Substituted as spec;
 
-use crate::connective::{both, either, sign_is};
-use crate::signs::{equal, is_even, strict};
 use crate::{Form, Forms, OutOfMemory, Poly, Sequence, Signs, Var};
 use std::alloc::Global;
 
@@ -18,9 +17,9 @@ fn coefficient(
     exponent: u32,
     signs: Signs,
 ) -> Result<Form, OutOfMemory>
-    ensures { IfOk result (λ f. tree f ≡ spec.sign_is (coefficient_in x.0 exponent poly.now) signs) }
+    ensures { IfOk result (λ f. tree f ≡ making.atomic (coefficient_in x.0 exponent poly.now) signs) }
 {
-    Ok(sign_is(poly.coefficient_in(alloc, x, exponent)?, signs))
+    Ok(Form::atom(poly.coefficient_in(alloc, x, exponent)?, signs))
 }
 
 /// An atom on each coefficient of a polynomial of degree one or two, that of the highest power first.
@@ -69,11 +68,11 @@ pub fn everywhere(
 fn line_below(alloc: Global, x: Var, poly: &Poly, signs: Signs) -> Result<Form, OutOfMemory>
     ensures { IfOk result (λ f. tree f ≡ spec.line_below x.0 poly.now signs) }
 {
-    let opposite = coefficient(alloc, x, poly, 1, strict(signs).mirror())?;
-    let zero = coefficient(alloc, x, poly, 1, equal())?;
+    let opposite = coefficient(alloc, x, poly, 1, signs.strict().mirror())?;
+    let zero = coefficient(alloc, x, poly, 1, Signs::EQUAL)?;
     let rest = coefficient(alloc, x, poly, 0, signs)?;
-    let flat = both(alloc, zero, rest)?;
-    either(alloc, opposite, flat)
+    let flat = Form::both(alloc, zero, rest)?;
+    Form::either(alloc, opposite, flat)
 }
 
 /// Both a and b are zero, and c has a sign of the set.
@@ -81,8 +80,8 @@ fn constant_below(alloc: Global, x: Var, poly: &Poly, signs: Signs) -> Result<Fo
     ensures { IfOk result (λ f. tree f ≡ spec.constant_below x.0 poly.now signs) }
 {
     let mut parts = Sequence::new(alloc);
-    parts.push(coefficient(alloc, x, poly, 2, equal())?)?;
-    parts.push(coefficient(alloc, x, poly, 1, equal())?)?;
+    parts.push(coefficient(alloc, x, poly, 2, Signs::EQUAL)?)?;
+    parts.push(coefficient(alloc, x, poly, 1, Signs::EQUAL)?)?;
     parts.push(coefficient(alloc, x, poly, 0, signs)?)?;
     Ok(Form::And(parts))
 }
@@ -92,11 +91,11 @@ fn constant_below(alloc: Global, x: Var, poly: &Poly, signs: Signs) -> Result<Fo
 fn quadratic_below(alloc: Global, x: Var, poly: &Poly, signs: Signs) -> Result<Form, OutOfMemory>
     ensures { IfOk result (λ f. tree f ≡ spec.quadratic_below x.0 poly.now signs) }
 {
-    let zero = coefficient(alloc, x, poly, 2, equal())?;
-    let turned = coefficient(alloc, x, poly, 1, strict(signs).mirror())?;
+    let zero = coefficient(alloc, x, poly, 2, Signs::EQUAL)?;
+    let turned = coefficient(alloc, x, poly, 1, signs.strict().mirror())?;
     let mut parts = Sequence::new(alloc);
-    parts.push(coefficient(alloc, x, poly, 2, strict(signs))?)?;
-    parts.push(both(alloc, zero, turned)?)?;
+    parts.push(coefficient(alloc, x, poly, 2, signs.strict())?)?;
+    parts.push(Form::both(alloc, zero, turned)?)?;
     parts.push(constant_below(alloc, x, poly, signs)?)?;
     Ok(Form::Or(parts))
 }
@@ -114,7 +113,7 @@ pub fn below(
     requires at_most { degree ≤ 2 }
     ensures { IfOk result (λ f. tree f ≡ spec.at_minus_infinity x.0 poly.now signs) }
 {
-    if is_even(signs) {
+    if signs.is_even() {
         everywhere(alloc, x, poly, degree, signs)
     } else if degree == 1 {
         line_below(alloc, x, poly, signs)

@@ -9,14 +9,15 @@ ghost use Rattle.qe_poly.specs.Coefficients.{degree_in};
 ghost use Rattle.qe_poly.specs.Polynomial.{IsPolynomial};
 ghost use Rattle.qe_root.specs.Atoms.{atoms, atoms_of, HasCanonicalAtoms, HaveCanonicalAtoms};
 ghost use Rattle.qe_root.specs.Holds.{StandsFor};
-ghost use Rattle.qe_subst.specs.Fault as fault;
+ghost use Rattle.qe_halt.specs.Outcome.{IsOutcome, IsOutcomeBy};
+ghost use Rattle.qe_root.specs.Stops.{met_limit};
 ghost use Rattle.qe_subst.specs.Left.{IsLeft};
 ghost use Rattle.qe_subst.specs.Stop as meaning;
 ghost use Rattle.qe_subst.specs.Substituted as spec;
 
 use crate::below::below;
 use crate::root::TestRoot;
-use crate::stop::AtomStop;
+use crate::stop::{AtomStop, Fault};
 use crate::{Atom, Form, Forms, Point, Poly, Sequence, SubstStop, Var};
 use std::alloc::Global;
 
@@ -36,7 +37,7 @@ impl TestPoint<'_> {
     fn for_atom(&self, alloc: Global, atom: &Atom) -> Result<Form, AtomStop>
         requires degree { degree_in self.now.x.0 atom.now.poly ≤ 2 }
         requires proper { IsProper atom.now.signs }
-        ensures made { let t = self.now in fault.IsOutcome
+        ensures made { let t = self.now in IsOutcome
             (spec.fault_of t.x.0 t.point.now (option_copied t.own) atom.now)
             (λ f. tree f ≡ spec.for_atom t.x.0 t.point.now (option_copied t.own) atom.now) result }
         ensures canonical { IsPolynomial atom.now.poly }
@@ -59,7 +60,7 @@ impl TestPoint<'_> {
     fn numbered(&self, alloc: Global, atom: &Atom, number: &mut u64) -> Result<Form, SubstStop>
         requires degree { degree_in self.now.x.0 atom.now.poly ≤ 2 }
         requires proper { IsProper atom.now.signs }
-        ensures made { let t = self.now in meaning.IsOutcome
+        ensures made { let t = self.now in IsOutcomeBy met_limit
             (meaning.limit_at t.x.0 t.point.now (option_copied t.own) number.old atom.now)
             (λ g. tree g ≡ spec.for_atom t.x.0 t.point.now (option_copied t.own) atom.now) result }
         ensures number { IfOk result (λ _. number.new ≡ meaning.next_number number.old) }
@@ -70,7 +71,7 @@ impl TestPoint<'_> {
                 *number = number.saturating_add(1);
                 Ok(form)
             }
-            Err(AtomStop::Limit(stage, limit)) => Err(SubstStop::At {
+            Err(AtomStop::Limit(Fault { stage, limit })) => Err(SubstStop::At {
                 atom: *number,
                 stage,
                 limit,
@@ -84,7 +85,7 @@ impl TestPoint<'_> {
     fn substituted(&self, alloc: Global, form: &Form, number: &mut u64) -> Result<Form, SubstStop>
         requires degree { degree self.now.x.0 (tree form.now) ≤ 2 }
         requires plain { IsPlainAndProper (tree form.now) }
-        ensures made { let t = self.now in let f = tree form.now in meaning.IsOutcome
+        ensures made { let t = self.now in let f = tree form.now in IsOutcomeBy met_limit
             (meaning.first_limit t.x.0 t.point.now (option_copied t.own) number.old (atoms f))
             (λ g. tree g ≡ spec.substituted t.x.0 t.point.now (option_copied t.own) f) result }
         ensures number { IfOk result (λ _. number.new ≡ meaning.number_after number.old (atoms (tree form.now))) }
@@ -114,7 +115,7 @@ impl TestPoint<'_> {
     ) -> Result<Forms, SubstStop>
         requires degree { degree_of_some self.now.x.0 (trees forms.now) ≤ 2 }
         requires plain { ArePlainWith (λ a. IsProper a.signs) (trees forms.now) }
-        ensures made { let t = self.now in let fs = trees forms.now in meaning.IsOutcome
+        ensures made { let t = self.now in let fs = trees forms.now in IsOutcomeBy met_limit
             (meaning.first_limit t.x.0 t.point.now (option_copied t.own) number.old (atoms_of fs))
             (λ gs. trees gs ≡ spec.substituted_each t.x.0 t.point.now (option_copied t.own) fs) result }
         ensures number { IfOk result (λ _. number.new ≡ meaning.number_after number.old (atoms_of (trees forms.now))) }
@@ -148,7 +149,7 @@ pub fn substitute(
     requires degree { degree x.0 (tree form.now) ≤ 2 }
     requires plain { IsPlainAndProper (tree form.now) }
     ensures exact { let f = tree form.now in
-        meaning.IsOutcome (meaning.stop x.0 point.now (option_copied own.entry) f)
+        IsOutcomeBy met_limit (meaning.stop x.0 point.now (option_copied own.entry) f)
         (λ g. tree g ≡ spec.substituted x.0 point.now (option_copied own.entry) f) result }
     ensures truth { IfOk result (λ g. StandsFor x.0 point.now (option_copied own.entry) (tree form.now) (tree g)) }
     ensures plain { IfOk result (λ g. IsPlainAndProper (tree g)) }

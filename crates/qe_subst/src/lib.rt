@@ -3,10 +3,8 @@
 #![tactic(auto)]
 
 mod below;
-mod connective;
 mod formula;
 mod root;
-mod signs;
 mod stop;
 
 pub use formula::substitute;

@@ -5,17 +5,18 @@ ghost use Rattle.qe_root.specs.declared.stop.Stage.TheVariants as stage;
 ghost use Rattle.qe_poly.specs.Coefficients.{degree_in, derivative};
 ghost use Rattle.qe_poly.specs.Limits.{derivative_limit};
 ghost use Rattle.qe_poly.specs.Polynomial.{IsPolynomial};
+ghost use Rattle.qe_form.specs.Making as making;
 ghost use Rattle.qe_form.specs.Signs.{IsProper};
+ghost use Rattle.qe_form.specs.Signs as signs_of;
 ghost use Rattle.qe_form.specs.Tree.{tree};
 ghost use Rattle.qe_root.specs.Value as value;
-ghost use Rattle.qe_root.specs.SignForm as sets;
-ghost use Rattle.qe_subst.specs.Fault.{IsOutcome, in_stage};
+ghost use Rattle.qe_root.specs.SignForm as sign_form;
+ghost use Rattle.qe_halt.specs.Outcome.{IsOutcome};
+ghost use Rattle.qe_subst.specs.Fault.{in_stage};
 ghost use Rattle.qe_subst.specs.Substituted as spec;
 
 use crate::below::everywhere;
-use crate::connective::{both, constant, either, sign_is};
-use crate::signs::{equal, is_even, strict};
-use crate::stop::AtomStop;
+use crate::stop::{AtomStop, stop_in};
 use crate::{Form, OutOfMemory, Poly, RootPoint, Signs, Stage, Var};
 use qe_root::{at_root, sign_form};
 use std::alloc::Global;
@@ -27,7 +28,7 @@ fn derivative(alloc: Global, x: Var, poly: &Poly) -> Result<Poly, AtomStop>
 {
     match poly.derivative(alloc, x) {
         Ok(derivative) => Ok(derivative),
-        Err(stop) => Err(AtomStop::of(Stage::Slope, stop)),
+        Err(stop) => Err(stop_in(Stage::Slope, stop)),
     }
 }
 
@@ -48,10 +49,10 @@ struct AtRoot {
 
 /// Either the first formula, or both the second and the one for the derivative.
 fn joined(alloc: Global, at: AtRoot, rest: Form) -> Result<Form, OutOfMemory>
-    ensures { IfOk result (λ f. tree f ≡ spec.either (tree at.unequal) (spec.both (tree at.zero) (tree rest))) }
+    ensures { IfOk result (λ f. tree f ≡ making.either (tree at.unequal) (making.both (tree at.zero) (tree rest))) }
 {
-    let rising = both(alloc, at.zero, rest)?;
-    either(alloc, at.unequal, rising)
+    let rising = Form::both(alloc, at.zero, rest)?;
+    Form::either(alloc, at.unequal, rising)
 }
 
 impl TestRoot<'_> {
@@ -74,19 +75,19 @@ impl TestRoot<'_> {
     {
         match at_root(alloc, poly, self.x, self.root) {
             Ok(parts) => Ok(parts),
-            Err(stop) => Err(AtomStop::of(Stage::Root, stop)),
+            Err(stop) => Err(stop_in(Stage::Root, stop)),
         }
     }
 
     /// The formula for the sign of A + B*sqrt(r).
     fn sign(&self, alloc: Global, parts: &(Poly, Poly), signs: Signs) -> Result<Form, AtomStop>
         requires { IsProper signs }
-        ensures { IsOutcome (in_stage stage.Sign (sets.sign_limit parts.now.0 parts.now.1 self.now.root.now.r signs))
-            (λ f. tree f ≡ sets.sign_formula parts.now.0 parts.now.1 self.now.root.now.r signs) result }
+        ensures { IsOutcome (in_stage stage.Sign (sign_form.sign_limit parts.now.0 parts.now.1 self.now.root.now.r signs))
+            (λ f. tree f ≡ sign_form.sign_formula parts.now.0 parts.now.1 self.now.root.now.r signs) result }
     {
         match sign_form(alloc, &parts.0, &parts.1, &self.root.r, signs) {
             Ok(form) => Ok(form),
-            Err(stop) => Err(AtomStop::of(Stage::Sign, stop)),
+            Err(stop) => Err(stop_in(Stage::Sign, stop)),
         }
     }
 
@@ -99,7 +100,7 @@ impl TestRoot<'_> {
             (λ f. tree f ≡ spec.at_root t.x.0 (option_copied t.own) t.root.now poly.now signs) result }
     {
         if self.is_own(poly) {
-            return Ok(constant(signs.has_zero()));
+            return Ok(Form::constant(signs.has_zero()));
         }
         let parts = self.parts(alloc, poly)?;
         self.sign(alloc, &parts, signs)
@@ -108,23 +109,23 @@ impl TestRoot<'_> {
     /// The formulas for the set without zero and for zero, from one value.
     fn at_both(&self, alloc: Global, poly: &Poly, signs: Signs) -> Result<AtRoot, AtomStop>
         requires degree { degree_in self.now.x.0 poly.now ≤ 2 }
-        requires proper { IsProper (spec.strict signs) }
+        requires proper { IsProper (signs_of.strict signs) }
         ensures { let t = self.now in IsOutcome
             (spec.at_both_fault t.x.0 (option_copied t.own) t.root.now poly.now signs)
             (λ at. (tree at.unequal
-            ≡ spec.at_root t.x.0 (option_copied t.own) t.root.now poly.now (spec.strict signs))
+            ≡ spec.at_root t.x.0 (option_copied t.own) t.root.now poly.now (signs_of.strict signs))
             × (tree at.zero
-            ≡ spec.at_root t.x.0 (option_copied t.own) t.root.now poly.now sets.equal)) result }
+            ≡ spec.at_root t.x.0 (option_copied t.own) t.root.now poly.now signs_of.equal)) result }
     {
         if self.is_own(poly) {
             return Ok(AtRoot {
-                unequal: constant(false),
-                zero: constant(true),
+                unequal: Form::constant(false),
+                zero: Form::constant(true),
             });
         }
         let parts = self.parts(alloc, poly)?;
-        let unequal = self.sign(alloc, &parts, strict(signs))?;
-        let zero = self.sign(alloc, &parts, equal())?;
+        let unequal = self.sign(alloc, &parts, signs.strict())?;
+        let zero = self.sign(alloc, &parts, Signs::EQUAL)?;
         Ok(AtRoot { unequal, zero })
     }
 
@@ -134,7 +135,7 @@ impl TestRoot<'_> {
     fn near(&self, alloc: Global, poly: &Poly, signs: Signs) -> Result<Form, AtomStop>
         requires canonical { IsPolynomial poly.now }
         requires degree { degree_in self.now.x.0 poly.now ≤ 2 }
-        requires proper { IsProper (spec.strict signs) }
+        requires proper { IsProper (signs_of.strict signs) }
         ensures { let t = self.now in let n = suc (degree_in t.x.0 (derivative t.x.0 poly.now)) in IsOutcome
             (spec.near_fault t.x.0 (option_copied t.own) t.root.now n poly.now signs)
             (λ f. tree f ≡ spec.near t.x.0 (option_copied t.own) t.root.now n poly.now signs) result }
@@ -154,13 +155,13 @@ impl TestRoot<'_> {
         signs: Signs,
     ) -> Result<Form, AtomStop>
         requires degree { degree_in self.now.x.0 derivative ≤ 2 }
-        requires proper { IsProper (spec.strict signs) }
+        requires proper { IsProper (signs_of.strict signs) }
         ensures { let t = self.now in let n = degree_in t.x.0 derivative in IsOutcome
             (spec.near_fault t.x.0 (option_copied t.own) t.root.now n derivative signs)
             (λ f. tree f ≡ spec.near t.x.0 (option_copied t.own) t.root.now n derivative signs) result }
     {
         if derivative.degree_in(self.x) == 0 {
-            return Ok(sign_is(derivative, signs));
+            return Ok(Form::atom(derivative, signs));
         }
         self.near(alloc, &derivative, signs)
     }
@@ -183,7 +184,7 @@ impl TestRoot<'_> {
             (spec.above_root_fault t.x.0 (option_copied t.own) t.root.now poly.now signs)
             (λ f. tree f ≡ spec.above_root t.x.0 (option_copied t.own) t.root.now poly.now signs) result }
     {
-        if is_even(signs) {
+        if signs.is_even() {
             return Ok(everywhere(alloc, self.x, poly, degree, signs)?);
         }
         self.near(alloc, poly, signs)

@@ -1,7 +1,7 @@
 use Rattle.std.proofs.Common.{◌≡◌, ap, subst, ℕ, ◌<◌, arith, option_copied}
 use Rattle.qe_form.specs.Tree.{tree}
 use Rattle.qe_poly.specs.Coefficients.{degree_in, derivative}
-use Rattle.qe_subst.specs.Fault.{IsOutcome}
+use Rattle.qe_halt.specs.Outcome.{IsOutcome}
 use Rattle.qe_subst.specs.Substituted.{near, near_fault}
 use Rattle.qe_subst.proofs.Derivatives.{degree_of_derivative, degree_over_derivative}
 use Rattle.qe_subst.proofs.root.TestRoot.+near.Goals as goal

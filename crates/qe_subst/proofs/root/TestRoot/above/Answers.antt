@@ -1,6 +1,6 @@
 use Rattle.std.proofs.Common.{◌≡◌, ◌∙◌, sym, ◌<◌, false, option_copied, arith}
 use Rattle.qe_poly.specs.Coefficients.{degree_in}
-use Rattle.qe_subst.specs.Substituted.{is_even}
+use Rattle.qe_form.specs.Signs.{is_even}
 use Rattle.qe_subst.proofs.Derivatives.{degree_over_derivative}
 use Rattle.qe_subst.proofs.Made.{near_made}
 use Rattle.qe_subst.proofs.root.TestRoot.above.Goals as goal
