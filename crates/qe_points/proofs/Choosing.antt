@@ -3,10 +3,11 @@ use Rattle.std.proofs.Common.{ℕ, zero, suc, ◌≡◌, ◌∙◌, ◌<◌, ◌
 use Rattle.std.proofs.lemmas.List.{drop_all}
 use Rattle.std.proofs.lemmas.Bool.{eqb-true}
 use Rattle.std.proofs.lemmas.Bool.Decides.{nat_tests}
+use Rattle.qe_halt.specs.Outcome.{or_else}
 use Rattle.qe_poly.specs.declared.monomial.Var.{Var}
 use Rattle.qe_form.specs.Formula.{Formula}
 use Rattle.qe_form.specs.Measures.{degree}
-use Rattle.qe_points.specs.Choice.{first_of_degree, or_else, choice, IsOneOf, AllAreHigh}
+use Rattle.qe_points.specs.Choice.{first_of_degree, choice, IsOneOf, AllAreHigh}
 
 same_test : (d n : ℕ) → d ≡ n → eqb d n ≡ true
 same_test d n same = grind (arith, nat_tests)

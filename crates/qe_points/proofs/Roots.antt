@@ -22,13 +22,15 @@ use Rattle.qe_form.specs.Value.{value}
 use Rattle.qe_form.specs.Truth.{has_sign, Is}
 use Rattle.qe_form.proofs.Values.{value_valid, value_of_sum, value_of_negative, value_of_product, value_of_multiple}
 use Rattle.qe_root.specs.declared.point.RootPoint.{RootPoint}
-use Rattle.qe_root.specs.SignForm.{equal, not_equal, at_least}
+use Rattle.qe_form.specs.Making.{atomic, both}
+use Rattle.qe_form.specs.Signs.{equal, not_equal, greater_or_equal}
 use Rattle.qe_root.specs.Value.{IsValue}
 use Rattle.qe_points.specs.declared.candidate.Which.{Which}
 use Rattle.qe_points.specs.declared.candidate.Which.TheVariants.{Linear, Upper, Lower}
-use Rattle.qe_points.specs.Guard.{atomic, both, discriminant_by, discriminant, linear_guard, quadratic_guard, root_guard, is_negative, turned, quadratic_root, root_of_kind}
+use Rattle.qe_points.specs.Guard.{discriminant_by, discriminant, linear_guard, quadratic_guard, root_guard, turned, quadratic_root, root_of_kind}
 use Rattle.qe_points.specs.Guarded.{Fits}
-use Rattle.qe_points.proofs.Occurring.{coefficient_past}
+use Rattle.qe_poly.specs.Numbers.{is_negative}
+use Rattle.qe_poly.proofs.Occurring.{coefficient_past}
 use Rattle.qe_points.proofs.OnLine.{sign_with}
 
 -- ---- signs
@@ -51,12 +53,12 @@ of_not_equal_sign Minus h = refl
 of_not_equal_sign Zero h = absurd h
 of_not_equal_sign Plus h = refl
 
-at_least_sign : (s : Sign) → has_sign at_least s ≡ true → IsNotMinus s
+at_least_sign : (s : Sign) → has_sign greater_or_equal s ≡ true → IsNotMinus s
 at_least_sign Minus h = absurd (cc)
 at_least_sign Zero h = tt
 at_least_sign Plus h = tt
 
-of_at_least_sign : (s : Sign) → IsNotMinus s → has_sign at_least s ≡ true
+of_at_least_sign : (s : Sign) → IsNotMinus s → has_sign greater_or_equal s ≡ true
 of_at_least_sign Minus h = absurd h
 of_at_least_sign Zero h = refl
 of_at_least_sign Plus h = refl

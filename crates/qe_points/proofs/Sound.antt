@@ -8,7 +8,7 @@ use Rattle.qe_poly.specs.Coefficients.{degree_in, coefficient_in}
 use Rattle.qe_poly.specs.Value.{scaled}
 use Rattle.qe_poly.specs.declared.limit.PolyLimit.{PolyLimit}
 use Rattle.qe_halt.specs.declared.halt.Halt.{Halt}
-use Rattle.qe_halt.specs.Outcome.{IsStop}
+use Rattle.qe_halt.specs.Outcome.{IsStop, IsOutcome}
 use Rattle.qe_form.specs.Formula.{Formula}
 use Rattle.qe_form.specs.Plain.{IsPlain}
 use Rattle.qe_form.specs.Same.{IsFree}
@@ -23,18 +23,19 @@ use Rattle.qe_root.specs.declared.point.Point.{Point}
 use Rattle.qe_root.specs.declared.point.Point.TheVariants as point
 use Rattle.qe_root.specs.Holds.{StandsAt, OwnIsZero}
 use Rattle.qe_root.specs.Occurs.{OccursInRoot, OccursInPoint}
-use Rattle.qe_root.specs.Outcome.{IsOutcome}
 use Rattle.qe_root.specs.Value.{IsValue}
-use Rattle.qe_root.specs.SignForm.{equal, not_equal}
+use Rattle.qe_form.specs.Making.{atomic, both}
+use Rattle.qe_form.specs.Signs.{equal, not_equal}
+use Rattle.qe_poly.specs.Numbers.{is_negative}
 use Rattle.qe_points.specs.declared.candidate.Which.{Which}
 use Rattle.qe_points.specs.declared.candidate.Which.TheVariants.{Linear, Upper, Lower}
 use Rattle.qe_points.specs.declared.candidate.Candidate.{Candidate}
 use Rattle.qe_points.specs.declared.candidate.Candidate.TheVariants.{Root}
 use Rattle.qe_points.specs.declared.guard.GuardedPoint.{GuardedPoint}
 use Rattle.qe_points.specs.declared.guard.RootWithGuard.{RootWithGuard}
-use Rattle.qe_points.specs.Guard.{atomic, both, discriminant, root_guard, is_negative, turned, quadratic_root, root_of_kind, at_or_above}
+use Rattle.qe_points.specs.Guard.{discriminant, root_guard, turned, quadratic_root, root_of_kind, at_or_above}
 use Rattle.qe_points.specs.Guarded.{Fits, HasRoot, IsMade, IsGuardedBy, IsThere, IsSound}
-use Rattle.qe_points.proofs.Occurring.{occurs_coefficient, occurs_negative, occurs_scaled, occurs_difference, occurs_product}
+use Rattle.qe_poly.proofs.Occurring.{occurs_coefficient, occurs_negative, occurs_scaled, occurs_difference, occurs_product}
 use Rattle.qe_points.proofs.Roots.{to_value, of_value, turned_value, of_turned, to_root, of_root, guard_flat, root_exists, zero_there}
 
 -- ---- which variables occur

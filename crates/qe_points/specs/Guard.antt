@@ -1,31 +1,25 @@
 -- The guard and the point of a candidate, by the coefficients of its polynomial a*x^2 + b*x + c.
-use Rattle.std.specs.Prelude.{ℕ, pos, negsuc, Bool, false, eqb, cond, [], ◌∷◌, Option, None}
-use Rattle.std.specs.Int.RustNames.{int_lt}
+use Rattle.std.specs.Prelude.{ℕ, pos, negsuc, Bool, eqb, cond, [], ◌∷◌, Option, None}
 use Rattle.qe_coef.specs.declared.Op.TheVariants.{Sub}
 use Rattle.qe_poly.specs.declared.limit.PolyLimit.{PolyLimit}
 use Rattle.qe_poly.specs.Polynomial.{Polynomial, constant, negative, difference, product}
 use Rattle.qe_poly.specs.Coefficients.{degree_in, coefficient_in}
 use Rattle.qe_poly.specs.Value.{scaled}
 use Rattle.qe_poly.specs.Limits.{sum_limit, product_limit, scale_limit}
-use Rattle.qe_form.specs.declared.signs.Signs.{Signs}
-use Rattle.qe_form.specs.Formula.{Formula, True, Atom, And, no_more, more}
+use Rattle.qe_poly.specs.Numbers.{is_negative}
+use Rattle.qe_halt.specs.Outcome.{first}
+use Rattle.qe_form.specs.Signs.{equal, not_equal, greater_or_equal}
+use Rattle.qe_form.specs.Formula.{Formula, True}
+use Rattle.qe_form.specs.Making.{atomic, both}
 use Rattle.qe_root.specs.declared.point.RootPoint.{RootPoint}
 use Rattle.qe_root.specs.declared.point.Point.{Point}
 use Rattle.qe_root.specs.declared.point.Point.TheVariants as point
-use Rattle.qe_root.specs.Outcome.{first}
-use Rattle.qe_root.specs.SignForm.{equal, not_equal, at_least}
 use Rattle.qe_points.specs.declared.candidate.Which.{Which}
 use Rattle.qe_points.specs.declared.candidate.Which.TheVariants.{Linear, Upper, Lower}
 use Rattle.qe_points.specs.declared.candidate.Candidate.{Candidate}
 use Rattle.qe_points.specs.declared.candidate.Candidate.TheVariants.{Root, MinusInf}
 
 -- ---- the guard
-
-abbrev pub atomic : Polynomial → Signs → Formula
-atomic p signs = Atom (record { poly = p; signs = signs })
-
-abbrev pub both : Formula → Formula → Formula
-both f g = And (more f (more g no_more))
 
 -- d = b^2 - 4*(a*c), by the coefficients and by the polynomial
 abbrev pub discriminant_by : (a b c : Polynomial) → Polynomial
@@ -42,7 +36,7 @@ linear_guard x f =
 
 -- a <> 0 and d >= 0
 abbrev pub quadratic_guard : ℕ → Polynomial → Formula
-quadratic_guard x f = both (atomic (coefficient_in x 2 f) not_equal) (atomic (discriminant x f) at_least)
+quadratic_guard x f = both (atomic (coefficient_in x 2 f) not_equal) (atomic (discriminant x f) greater_or_equal)
 
 -- where the root of this kind is one
 abbrev pub root_guard : ℕ → Polynomial → Which → Formula
@@ -55,11 +49,6 @@ guard x (Root f n which plus) = root_guard x f which
 guard x MinusInf = True
 
 -- ---- the point
-
--- the polynomial is a negative number
-abbrev pub is_negative : Polynomial → Bool
-is_negative (([], c) ∷ []) = int_lt c (pos 0)
-is_negative p = false
 
 -- (p + q*sqrt(r))/s with p, q and s negated where s is a negative number
 abbrev pub turned : RootPoint → RootPoint

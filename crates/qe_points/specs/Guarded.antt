@@ -101,12 +101,3 @@ pub record IsSound (x : ℕ) (c : Candidate) (g : Formula) (p : Point) : Type 0 
 -- a guard with a root
 abbrev pub IsMade : Formula → RootPoint → RootWithGuard → Type 0
 IsMade guard k g = (tree g.guard ≡ guard) × (g.root ≡ k)
-
-abbrev pub is_false : Formula → Bool
-is_false False = true
-is_false f = false
-
--- the refusal for an atom: a limit in its guard
-abbrev pub guard_stop : ℕ → Halt PolyLimit → SubstStop
-guard_stop atom (met.Limit limit) = stop.At atom stage.Guard limit
-guard_stop atom met.OutOfMemory = stop.OutOfMemory

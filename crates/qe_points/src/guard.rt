@@ -1,22 +1,20 @@
 //! The guard and the point of a candidate.
 
-ghost use Rattle.std.specs.Prelude.{◌≡◌, ◌≢◌, ◌≤ℤ◌, pos, negsuc, IfOk, IfSome, cond, None, Some};
+ghost use Rattle.std.specs.Prelude.{◌≡◌, pos, IfOk, IfSome};
 ghost use Rattle.qe_poly.specs.Polynomial as spec;
-ghost use Rattle.qe_halt.specs.Outcome.{IsAnswer};
+ghost use Rattle.qe_halt.specs.Outcome.{IsOutcome};
 ghost use Rattle.qe_poly.specs.Coefficients.{coefficient_in};
 ghost use Rattle.qe_poly.specs.Value.{scaled};
 ghost use Rattle.qe_form.specs.Plain.{IsPlain};
 ghost use Rattle.qe_simp.specs.Meaning.{Keeps};
 ghost use Rattle.qe_simp.specs.Shape.{IsSimplified};
-ghost use Rattle.qe_form.specs.Formula as formula;
 ghost use Rattle.qe_form.specs.Tree.{tree};
-ghost use Rattle.qe_root.specs.Outcome.{IsOutcome};
 ghost use Rattle.qe_points.specs.Guard as meaning;
-ghost use Rattle.qe_points.specs.Guarded.{HasRoot, IsGuardedBy, IsMade, IsSound, IsGuardAnswer, is_false, guard_stop};
+ghost use Rattle.qe_points.specs.Guarded.{HasRoot, IsGuardedBy, IsMade, IsSound, IsGuardAnswer};
 
 use crate::{Candidate, Form, OutOfMemory, Point, Poly, RootPoint, Stage, SubstStop, Var, Which};
 use qe_coef::Coef;
-use qe_form::{Atom, Sequence, Signs};
+use qe_form::Signs;
 use qe_poly::PolyStop;
 use qe_simp::simplify;
 use std::alloc::Global;
@@ -35,43 +33,17 @@ struct RootWithGuard {
     root: RootPoint,
 }
 
-/// A small number as a coefficient.
-fn number(value: i128) -> Coef
-    requires low { negsuc 0 ≤ℤ value }
-    requires high { value ≤ℤ pos 4 }
-    ensures { result ≡ value }
-{
-    Coef::of(value).unwrap_or(Coef::zero())
-}
-
-/// The atom that the polynomial's sign is in the set.
-fn atom(poly: Poly, signs: Signs) -> Form
-    ensures { tree result ≡ meaning.atomic poly signs }
-{
-    Form::Atom(Atom { poly, signs })
-}
-
-/// The `And` of two formulas.
-fn both(alloc: Global, left: Form, right: Form) -> Result<Form, OutOfMemory>
-    ensures { IfOk result (λ f. tree f ≡ meaning.both (tree left) (tree right)) }
-{
-    let mut parts = Sequence::new(alloc);
-    parts.push(left)?;
-    parts.push(right)?;
-    Ok(Form::And(parts))
-}
-
 /// The guard `b <> 0`, and for degree two `a = 0 and b <> 0`.
 fn linear_guard(alloc: Global, poly: &Poly, x: Var, b: Poly) -> Result<Form, OutOfMemory>
     requires { b ≡ coefficient_in x.0 1 poly.now }
     ensures { IfOk result (λ f. tree f ≡ meaning.linear_guard x.0 poly.now) }
 {
-    let guard = atom(b, Signs::of(true, false, true));
+    let guard = Form::atom(b, Signs::NOT_EQUAL);
     if poly.degree_in(x) != 2 {
         return Ok(guard);
     }
     let a = poly.coefficient_in(alloc, x, 2)?;
-    both(alloc, atom(a, Signs::of(false, true, false)), guard)
+    Form::both(alloc, Form::atom(a, Signs::EQUAL), guard)
 }
 
 /// The root `-c/b` with its guard.
@@ -97,9 +69,9 @@ fn quadratic_parts(alloc: Global, a: &Poly, b: &Poly, c: &Poly) -> Result<(Poly,
         (λ r. (r.0 ≡ meaning.discriminant_by a.now b.now c.now) × (r.1 ≡ scaled (pos 2) a.now)) result }
 {
     let square = b.mul(alloc, b)?;
-    let product = a.mul(alloc, c)?.scale(alloc, number(4))?;
+    let product = a.mul(alloc, c)?.scale(alloc, Coef::small(4))?;
     let discriminant = square.sub(alloc, &product)?;
-    let divisor = a.scale(alloc, number(2))?;
+    let divisor = a.scale(alloc, Coef::small(2))?;
     Ok((discriminant, divisor))
 }
 
@@ -114,9 +86,9 @@ fn quadratic_root(alloc: Global, poly: &Poly, x: Var, q: Poly) -> Result<RootWit
     let c = poly.coefficient_in(alloc, x, 0)?;
     let (r, s) = quadratic_parts(alloc, &a, &b, &c)?;
     let p = b.neg(alloc)?;
-    let quadratic = atom(a, Signs::of(true, false, true));
-    let real = atom(r.copy(alloc)?, Signs::of(false, true, true));
-    let guard = both(alloc, quadratic, real)?;
+    let quadratic = Form::atom(a, Signs::NOT_EQUAL);
+    let real = Form::atom(r.copy(alloc)?, Signs::GREATER_OR_EQUAL);
+    let guard = Form::both(alloc, quadratic, real)?;
     Ok(RootWithGuard {
         guard,
         root: RootPoint { p, q, r, s },
@@ -130,18 +102,8 @@ fn root(alloc: Global, poly: &Poly, x: Var, which: Which) -> Result<RootWithGuar
 {
     match which {
         Which::Linear => Ok(linear_root(alloc, poly, x)?),
-        Which::Upper => quadratic_root(alloc, poly, x, Poly::constant(alloc, number(1))?),
-        Which::Lower => quadratic_root(alloc, poly, x, Poly::constant(alloc, number(-1))?),
-    }
-}
-
-/// Whether the polynomial is a negative number.
-fn is_negative(poly: &Poly) -> bool
-    ensures { result ≡ meaning.is_negative poly.now }
-{
-    match poly.as_constant() {
-        Some(value) => value.value() < 0,
-        None => false,
+        Which::Upper => quadratic_root(alloc, poly, x, Poly::constant(alloc, Coef::small(1))?),
+        Which::Lower => quadratic_root(alloc, poly, x, Poly::constant(alloc, Coef::small(-1))?),
     }
 }
 
@@ -149,7 +111,7 @@ fn is_negative(poly: &Poly) -> bool
 fn turned(alloc: Global, root: RootPoint) -> Result<RootPoint, OutOfMemory>
     ensures { IfOk result (λ k. k ≡ meaning.turned root) }
 {
-    if !is_negative(&root.s) {
+    if !root.s.is_negative() {
         return Ok(root);
     }
     let RootPoint { p, q, r, s } = root;
@@ -159,16 +121,6 @@ fn turned(alloc: Global, root: RootPoint) -> Result<RootPoint, OutOfMemory>
         r,
         s: s.neg(alloc)?,
     })
-}
-
-/// Whether it is the formula `False`.
-fn is_false(form: &Form) -> bool
-    ensures { result ≡ is_false (tree form.now) }
-{
-    match form {
-        Form::False => true,
-        _ => false,
-    }
 }
 
 /// The simplified guard with the root, or with what is just above it; `None` where that guard is `False`.
@@ -183,7 +135,7 @@ fn guarded_root(
 {
     let RootWithGuard { guard, root } = found;
     let guard = simplify(alloc, guard)?;
-    if is_false(&guard) {
+    if guard.is_false() {
         return Ok(None);
     }
     let root = turned(alloc, root)?;
@@ -193,20 +145,6 @@ fn guarded_root(
         Point::Root(root)
     };
     Ok(Some(GuardedPoint { guard, point }))
-}
-
-/// The refusal for the atom.
-fn stopped(atom: u64, stop: PolyStop) -> SubstStop
-    ensures { result ≡ guard_stop atom stop }
-{
-    match stop {
-        PolyStop::Limit(limit) => SubstStop::At {
-            atom,
-            stage: Stage::Guard,
-            limit,
-        },
-        PolyStop::OutOfMemory => SubstStop::OutOfMemory,
-    }
 }
 
 /// The simplified guard and the point of a candidate; `None` where the simplified guard is `False`. With the candidate's polynomial
@@ -242,7 +180,12 @@ pub fn guarded(
             plus,
         } => match root(alloc, poly, x, *which) {
             Ok(found) => Ok(guarded_root(alloc, found, *plus)?),
-            Err(stop) => Err(stopped(*atom, stop)),
+            Err(PolyStop::Limit(limit)) => Err(SubstStop::At {
+                atom: *atom,
+                stage: Stage::Guard,
+                limit,
+            }),
+            Err(PolyStop::OutOfMemory) => Err(SubstStop::OutOfMemory),
         },
     }
 }
