@@ -12,21 +12,23 @@ use Rattle.qe_poly.proofs.Derivatives.{IsPolynomial-derivative}
 use Rattle.qe_poly.proofs.Constants.{IsPolynomial-constant}
 use Rattle.qe_form.specs.declared.form.Atom as atom
 use Rattle.qe_form.specs.declared.signs.Signs.{Signs}
+use Rattle.qe_form.specs.Making.{constant}
+use Rattle.qe_form.specs.Signs.{equal, not_equal, strict, is_even}
 use Rattle.qe_form.specs.Formula.{Formula, Formulas, True, False, Atom, And, Or, Not, Implies, Iff, Ex, All, no_more, more}
 use Rattle.qe_form.specs.Plain.{ArePlainWith}
 use Rattle.qe_root.specs.declared.point.RootPoint.{RootPoint}
 use Rattle.qe_root.specs.declared.point.Point.{Point}
 use Rattle.qe_root.specs.declared.point.Point.TheVariants.{Root, RootPlus, MinusInf}
-use Rattle.qe_root.specs.Outcome.{is_zero}
+use Rattle.qe_poly.specs.Numbers.{is_zero, is_negative}
 use Rattle.qe_root.specs.Value.{triple, square, plain_part, root_part, plain_part_of, root_part_of}
 use Rattle.qe_root.specs.Shape.{Shape, conjunction, disjunction, formula}
 use Rattle.qe_root.specs.Shape as shape
-use Rattle.qe_root.specs.SignForm.{equal, not_equal, sign_shape, norm, sign_formula}
+use Rattle.qe_root.specs.SignForm.{sign_shape, norm, sign_formula}
 use Rattle.qe_points.specs.declared.candidate.Which.{Which}
 use Rattle.qe_points.specs.declared.candidate.Which.TheVariants.{Linear, Upper, Lower}
 use Rattle.qe_points.specs.declared.candidate.Candidate.{Candidate}
 use Rattle.qe_points.specs.declared.candidate.Candidate.TheVariants as candidate
-use Rattle.qe_points.specs.Guard.{guard, point_of, discriminant, is_negative, turned, root_of_kind, at_or_above}
+use Rattle.qe_points.specs.Guard.{guard, point_of, discriminant, turned, root_of_kind, at_or_above}
 use Rattle.qe_points.specs.Guarded.{own}
 use Rattle.qe_subst.specs.Substituted as spec
 use Rattle.qe_tree.specs.Sound.{IsFine}
@@ -105,7 +107,7 @@ sign_formula_fine a b r signs ha hb hr = by_zero (is_zero b)
 
 -- ---- a formula at a point
 
-constant_fine : (b : Bool) → IsFine (spec.constant b)
+constant_fine : (b : Bool) → IsFine (constant b)
 constant_fine true = tt
 constant_fine false = tt
 
@@ -120,7 +122,7 @@ module _ (x : ℕ) where
   module _ (own : Option Polynomial) (k : RootPoint) (root : IsRoot k) where
     at_root_fine : (f : Polynomial) (signs : Signs) → IsPolynomial f → IsFine (spec.at_root x own k f signs)
     at_root_fine f signs h =
-        fine_if (spec.is_own own f) (spec.constant signs.zero) (sign_formula (plain_part_of f x k) (root_part_of f x k) k.r signs) (constant_fine signs.zero)
+        fine_if (spec.is_own own f) (constant signs.zero) (sign_formula (plain_part_of f x k) (root_part_of f x k) k.r signs) (constant_fine signs.zero)
         (sign_formula_fine (plain_part_of f x k) (root_part_of f x k) k.r signs
         (IsPolynomial-plain_part k root (coefficient_in x 2 f) (coefficient_in x 1 f) (coefficient_in x 0 f) (coefficient 2 f h) (coefficient 1 f h) (coefficient 0 f h))
         (IsPolynomial-root_part k root (coefficient_in x 2 f) (coefficient_in x 1 f) (coefficient_in x 0 f) (coefficient 2 f h) (coefficient 1 f h) (coefficient 0 f h)) root.r)
@@ -128,7 +130,7 @@ module _ (x : ℕ) where
     near_fine : (n : ℕ) (f : Polynomial) (signs : Signs) → IsPolynomial f → IsFine (spec.near x own k n f signs)
     near_fine zero f signs h = h
     near_fine (suc n) f signs h =
-        (at_root_fine f (spec.strict signs) h, ((at_root_fine f equal h, (near_fine n (derivative x f) signs (IsPolynomial-derivative x f h), tt)), tt))
+        (at_root_fine f (strict signs) h, ((at_root_fine f equal h, (near_fine n (derivative x f) signs (IsPolynomial-derivative x f h), tt)), tt))
 
   each_coefficient_fine : (n : ℕ) (f : Polynomial) (signs : Signs) → IsPolynomial f → ArePlainWith (λ a. IsPolynomial a.poly) (spec.each_coefficient x n f signs)
   each_coefficient_fine zero f signs h = (coefficient zero f h, tt)
@@ -150,8 +152,8 @@ module _ (x : ℕ) where
   at_point_fine : (point : Point) (own : Option Polynomial) → IsTestPoint point → (f : Polynomial) (signs : Signs) → IsPolynomial f → IsFine (spec.at_point x point own f signs)
   at_point_fine (Root k) own root f signs h = at_root_fine own k root f signs h
   at_point_fine (RootPlus k) own root f signs h =
-      fine_if (spec.is_even signs) (spec.everywhere x f signs) (spec.near x own k (degree_in x f) f signs) (everywhere_fine f signs h) (near_fine own k root (degree_in x f) f signs h)
-  at_point_fine MinusInf own root f signs h = fine_if (spec.is_even signs) (spec.everywhere x f signs) (cond (eqb (degree_in x f) 1) (spec.line_below x f signs) (spec.quadratic_below x f signs)) (everywhere_fine f signs h) (below_fine f signs h)
+      fine_if (is_even signs) (spec.everywhere x f signs) (spec.near x own k (degree_in x f) f signs) (everywhere_fine f signs h) (near_fine own k root (degree_in x f) f signs h)
+  at_point_fine MinusInf own root f signs h = fine_if (is_even signs) (spec.everywhere x f signs) (cond (eqb (degree_in x f) 1) (spec.line_below x f signs) (spec.quadratic_below x f signs)) (everywhere_fine f signs h) (below_fine f signs h)
 
   module _ (point : Point) (own : Option Polynomial) (test : IsTestPoint point) where
     for_atom_fine : (a : atom.Atom) → IsPolynomial a.poly → IsFine (spec.for_atom x point own a)
