@@ -54,7 +54,7 @@ module _ (x : ℕ) (p : Point) (valid : IsPoint p) where
   -- ---- how far down from a number a formula is true
 
   module _ (K : Place ValidNumber → Type 0) (low : K below) (v : ValidNumber) where
-    -- where the formula is true at v, it is so down to a place of which K holds
+    -- where the formula is true at v, it is true down to a place of which K holds
     abbrev pub Reaches : Formula → Type 0
     Reaches f = Is f true (at_number v) → Reach valid_operations valid_sign K v (λ u. Is f true (at_number u))
 

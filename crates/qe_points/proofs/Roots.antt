@@ -1,4 +1,4 @@
--- The values of a candidate's root are the roots of its polynomial, and its guard says that there is one.
+-- The values of a candidate's root are the roots of its polynomial, and its guard states that there is one.
 use Rattle.std.proofs.Common.{ℕ, zero as nought, suc, ◌≡◌, ◌∙◌, ◌≤◌, ◌<◌, refl, sym, ap, subst, Bool, true, false, cond, eqb, pos, negsuc, [], ◌∷◌, arith}
 use Rattle.std.proofs.lemmas.Bool.Decides.{nat_tests}
 use Rattle.qe_ring.specs.Ring.{IsRing}

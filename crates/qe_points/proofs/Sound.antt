@@ -1,4 +1,4 @@
--- The guard of a candidate says that its point is there, and in both stand only variables of its polynomial other than x.
+-- Where the guard of a candidate is true its point exists, and only variables of its polynomial other than x occur in both.
 use Rattle.std.proofs.Common.{ℕ, ◌≡◌, ◌≢◌, ◌≤◌, inl, inr, sym, subst, Bool, true, false, cond, eqb, pos, negsuc, Some, None, Option, Result, Ok, Err, IsErr, IsErrAnd, IfSome, arith}
 use Rattle.qe_tower.specs.Point as assignment
 use Rattle.qe_tower.specs.Number.{ValidNumber}

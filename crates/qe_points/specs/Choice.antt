@@ -12,7 +12,8 @@ first_of_degree f n (v ∷ vs) = cond (eqb (degree v.0 f) n) (Some v) (first_of_
 
 -- the first variable of degree 0, where there is none the first of degree 1, and then of degree 2
 abbrev pub choice : Formula → List Var → Option Var
-choice f vs = or_else (first_of_degree f 0 vs) (or_else (first_of_degree f 1 vs) (first_of_degree f 2 vs))
+choice f vs =
+    or_else (first_of_degree f 0 vs) (or_else (first_of_degree f 1 vs) (first_of_degree f 2 vs))
 
 -- the variable is one of those
 abbrev pub IsOneOf : Var → List Var → Type 0

@@ -26,17 +26,20 @@ abbrev pub discriminant_by : (a b c : Polynomial) → Polynomial
 discriminant_by a b c = difference (product b b) (scaled (pos 4) (product a c))
 
 abbrev pub discriminant : ℕ → Polynomial → Polynomial
-discriminant x f = discriminant_by (coefficient_in x 2 f) (coefficient_in x 1 f) (coefficient_in x 0 f)
+discriminant x f =
+    discriminant_by (coefficient_in x 2 f) (coefficient_in x 1 f) (coefficient_in x 0 f)
 
 -- b <> 0, and for degree two a = 0 besides
 abbrev pub linear_guard : ℕ → Polynomial → Formula
 linear_guard x f =
-    cond (eqb (degree_in x f) 2) (both (atomic (coefficient_in x 2 f) equal) (atomic (coefficient_in x 1 f) not_equal))
+    cond (eqb (degree_in x f) 2)
+    (both (atomic (coefficient_in x 2 f) equal) (atomic (coefficient_in x 1 f) not_equal))
     (atomic (coefficient_in x 1 f) not_equal)
 
 -- a <> 0 and d >= 0
 abbrev pub quadratic_guard : ℕ → Polynomial → Formula
-quadratic_guard x f = both (atomic (coefficient_in x 2 f) not_equal) (atomic (discriminant x f) greater_or_equal)
+quadratic_guard x f =
+    both (atomic (coefficient_in x 2 f) not_equal) (atomic (discriminant x f) greater_or_equal)
 
 -- where the root of this kind is one
 abbrev pub root_guard : ℕ → Polynomial → Which → Formula
@@ -52,15 +55,22 @@ guard x MinusInf = True
 
 -- (p + q*sqrt(r))/s with p, q and s negated where s is a negative number
 abbrev pub turned : RootPoint → RootPoint
-turned k = cond (is_negative k.s) (record { p = negative k.p; q = negative k.q; r = k.r; s = negative k.s }) k
+turned k =
+    cond (is_negative k.s) (record { p = negative k.p; q = negative k.q; r = k.r; s = negative k.s }) k
 
 -- -c/b
 abbrev pub linear_root : ℕ → Polynomial → RootPoint
-linear_root x f = record { p = negative (coefficient_in x 0 f); q = []; r = []; s = coefficient_in x 1 f }
+linear_root x f =
+    record { p = negative (coefficient_in x 0 f); q = []; r = []; s = coefficient_in x 1 f }
 
 -- (-b + q*sqrt(d))/(2*a)
 abbrev pub quadratic_root : ℕ → Polynomial → Polynomial → RootPoint
-quadratic_root x f q = record { p = negative (coefficient_in x 1 f); q = q; r = discriminant x f; s = scaled (pos 2) (coefficient_in x 2 f) }
+quadratic_root x f q = record {
+  p = negative (coefficient_in x 1 f);
+  q = q;
+  r = discriminant x f;
+  s = scaled (pos 2) (coefficient_in x 2 f);
+}
 
 -- the root of this kind: with the square root added, or taken away
 abbrev pub root_of_kind : ℕ → Polynomial → Which → RootPoint
@@ -81,11 +91,13 @@ point_of x MinusInf = point.MinusInf
 abbrev pub quadratic_limit_by : (a b c : Polynomial) → Option PolyLimit
 quadratic_limit_by a b c =
     first (
-    product_limit b b ∷ product_limit a c ∷ scale_limit (pos 4) (product a c) ∷ sum_limit Sub (product b b) (scaled (pos 4) (product a c))
+    product_limit b b ∷ product_limit a c ∷ scale_limit (pos 4) (product a c)
+    ∷ sum_limit Sub (product b b) (scaled (pos 4) (product a c))
     ∷ scale_limit (pos 2) a ∷ [])
 
 abbrev pub quadratic_limit : ℕ → Polynomial → Option PolyLimit
-quadratic_limit x f = quadratic_limit_by (coefficient_in x 2 f) (coefficient_in x 1 f) (coefficient_in x 0 f)
+quadratic_limit x f =
+    quadratic_limit_by (coefficient_in x 2 f) (coefficient_in x 1 f) (coefficient_in x 0 f)
 
 -- of degree one nothing is multiplied
 abbrev pub root_limit : ℕ → Polynomial → Which → Option PolyLimit

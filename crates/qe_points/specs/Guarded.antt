@@ -56,7 +56,8 @@ pub record IsOf (x : ℕ) (f : Formula) (c : Candidate) : Type 0 where
 -- none where the simplified guard is False, and else that guard with the point
 abbrev pub IsGuardedBy : Formula → Point → Option GuardedPoint → Type 0
 IsGuardedBy guard p None = simplified guard ≡ False
-IsGuardedBy guard p (Some g) = (simplified guard ≢ False) × ((tree g.guard ≡ simplified guard) × (g.point ≡ p))
+IsGuardedBy guard p (Some g) =
+    (simplified guard ≢ False) × ((tree g.guard ≡ simplified guard) × (g.point ≡ p))
 
 abbrev pub IsGuarded : ℕ → Candidate → Option GuardedPoint → Type 0
 IsGuarded x c found = IsGuardedBy (guard x c) (point_of x c) found
@@ -66,9 +67,10 @@ abbrev pub IsItsAtom : Candidate → ℕ → Type 0
 IsItsAtom (Root f n which plus) atom = n ≡ atom
 IsItsAtom MinusInf atom = ⊥
 
--- the first limit in the guard; want of memory may come in place of any answer
+-- the first limit in the guard; out of memory may come in place of any answer
 abbrev pub IsGuardStop : ℕ → Candidate → SubstStop → Type 0
-IsGuardStop x c (stop.At atom step met) = (limit x c ≡ Some met) × (IsItsAtom c atom × (step ≡ stage.Guard))
+IsGuardStop x c (stop.At atom step met) =
+    (limit x c ≡ Some met) × (IsItsAtom c atom × (step ≡ stage.Guard))
 IsGuardStop x c stop.TooLarge = ⊥
 IsGuardStop x c stop.OutOfMemory = Unit {0}
 
@@ -88,8 +90,9 @@ pub record IsThere (x : ℕ) (c : Candidate) (p : Point) (at : assignment.Point)
   pub place : (k : Place ValidNumber) × StandsAt p at k
   pub zero : (k : Place ValidNumber) → StandsAt p at k → OwnIsZero x (own c) at k
 
--- The guard is plain and its signs are proper; where it is true, the point has a place, where the candidate's polynomial is zero; and the
--- variables of the guard and of the point are those of that polynomial, without x.
+-- The guard is plain and its signs are proper; where it is true, the point has a place, where the
+-- candidate's polynomial is zero; and the variables of the guard and of the point are those of that
+-- polynomial, without x.
 pub record IsSound (x : ℕ) (c : Candidate) (g : Formula) (p : Point) : Type 0 where
   pub plain : IsPlainAndProper g
   pub there : (at : assignment.Point) → assignment.IsPoint at → Is g true at → IsThere x c p at

@@ -15,7 +15,8 @@ use indexmap::IndexMap;
 use qe_form::{Atom, Forms};
 use std::alloc::Global;
 
-/// The different polynomials of some atoms in the order of these, each with the number of the first atom that has it.
+/// The different polynomials of some atoms in the order of these, each with the number of the first
+/// atom that has it.
 type Found = IndexMap<Poly, u64>;
 
 /// The polynomials with a variable, of the atoms whose signs have zero and of the others.
@@ -28,7 +29,8 @@ struct Groups {
 /// Adds the atoms of a formula from left to right.
 #[cycle(gather)]
 fn gather<'a>(form: &'a Form, atoms: &mut Vec<&'a Atom>) -> Result<(), OutOfMemory>
-    ensures { OnOk result (map (λ a. a.now) atoms.new.items ≡ map (λ a. a.now) atoms.old.items ++ formula.atoms (tree form.now)) }
+    ensures { OnOk result (map (λ a. a.now) atoms.new.items
+        ≡ map (λ a. a.now) atoms.old.items ++ formula.atoms (tree form.now)) }
 {
     match form {
         Form::Atom(atom) => {
@@ -43,7 +45,8 @@ fn gather<'a>(form: &'a Form, atoms: &mut Vec<&'a Atom>) -> Result<(), OutOfMemo
 /// Adds the atoms of each part, in order.
 #[cycle(gather)]
 fn gather_each<'a>(parts: &'a Forms, atoms: &mut Vec<&'a Atom>) -> Result<(), OutOfMemory>
-    ensures { OnOk result (map (λ a. a.now) atoms.new.items ≡ map (λ a. a.now) atoms.old.items ++ formula.atoms_of (trees parts.now)) }
+    ensures { OnOk result (map (λ a. a.now) atoms.new.items
+        ≡ map (λ a. a.now) atoms.old.items ++ formula.atoms_of (trees parts.now)) }
 {
     for part in parts.items() {
         gather(part, atoms)?;
@@ -63,8 +66,10 @@ fn note(alloc: Global, found: &mut Found, poly: &Poly, atom: u64) -> Result<(), 
 
 /// The polynomials with the variable.
 fn grouped(alloc: Global, x: Var, atoms: &[&Atom]) -> Result<Groups, OutOfMemory>
-    ensures zero { IfOk result (λ g. g.zero.entries ≡ spec.distinct (spec.numbered x.0 true 0 (map (λ a. a.now) atoms.now))) }
-    ensures other { IfOk result (λ g. g.other.entries ≡ spec.distinct (spec.numbered x.0 false 0 (map (λ a. a.now) atoms.now))) }
+    ensures zero { IfOk result (λ g. g.zero.entries
+        ≡ spec.distinct (spec.numbered x.0 true 0 (map (λ a. a.now) atoms.now))) }
+    ensures other { IfOk result (λ g. g.other.entries
+        ≡ spec.distinct (spec.numbered x.0 false 0 (map (λ a. a.now) atoms.now))) }
     ensures canonical { IfOk result (λ _. All (λ a. IsPolynomial a.now.poly) atoms.now) }
 {
     let mut zero = IndexMap::new(alloc);
@@ -168,18 +173,21 @@ fn add_each(
     Ok(())
 }
 
-/// Where a formula has to be tested in a variable, after Loos and Weispfenning (1993) and Weispfenning (1997). First come the roots of
-/// the different polynomials that have the variable, of the atoms whose signs have zero, in the order in which these atoms first have
-/// them; then what is just above the roots of those of the other atoms, in the same order; last what is below all numbers. A
-/// polynomial of degree one gives its root, one of degree two `Linear`, `Upper` and `Lower`, and one of a higher degree nothing.
-/// Each keeps the number of the first atom of its group that has the polynomial; all atoms of the formula are numbered from 0, from
-/// left to right. The clause `canonical` tells what the formula's type keeps. `Err` for want of memory alone.
+/// Where a formula has to be tested in a variable, after Loos and Weispfenning (1993) and
+/// Weispfenning (1997). First come the roots of the different polynomials that have the variable,
+/// of the atoms whose signs have zero, in the order in which these atoms first have them; then what
+/// is just above the roots of those of the other atoms, in the same order; last what is below all
+/// numbers. A polynomial of degree one gives its root, one of degree two `Linear`, `Upper` and
+/// `Lower`, and one of a higher degree nothing. Each keeps the number of the first atom of its
+/// group that has the polynomial; all atoms of the formula are numbered from 0, from left to right.
+/// The clause `canonical` tells what the formula's type keeps. `Err` only where memory runs out.
 pub fn candidates(alloc: Global, form: &Form, x: Var) -> Result<Vec<Candidate>, OutOfMemory>
     ensures exact { IfOk result (λ cs. cs.items ≡ spec.candidates x.0 (tree form.now)) }
     ensures each { IfOk result (λ cs. All (IsOf x.0 (tree form.now)) cs.items) }
     ensures complete { IfOk result (λ cs. IsPlain (tree form.now) → degree x.0 (tree form.now) ≤ 2
         → IsComplete x.0 (tree form.now) cs.items) }
-    ensures canonical { IfOk result (λ _. IsPlain (tree form.now) → formula.HasCanonicalAtoms (tree form.now)) }
+    ensures canonical { IfOk result
+        (λ _. IsPlain (tree form.now) → formula.HasCanonicalAtoms (tree form.now)) }
 {
     let mut atoms = Vec::new(alloc);
     gather(form, &mut atoms)?;

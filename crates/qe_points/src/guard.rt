@@ -48,7 +48,8 @@ fn linear_guard(alloc: Global, poly: &Poly, x: Var, b: Poly) -> Result<Form, Out
 
 /// The root `-c/b` with its guard.
 fn linear_root(alloc: Global, poly: &Poly, x: Var) -> Result<RootWithGuard, OutOfMemory>
-    ensures exact { IfOk result (IsMade (meaning.linear_guard x.0 poly.now) (meaning.linear_root x.0 poly.now)) }
+    ensures exact { IfOk result
+        (IsMade (meaning.linear_guard x.0 poly.now) (meaning.linear_root x.0 poly.now)) }
     ensures canonical { IfOk result (λ _. spec.IsPolynomial poly.now) }
 {
     let b = poly.coefficient_in(alloc, x, 1)?;
@@ -66,7 +67,8 @@ fn linear_root(alloc: Global, poly: &Poly, x: Var) -> Result<RootWithGuard, OutO
 /// `d = b^2 - 4*(a*c)`, and `2*a`.
 fn quadratic_parts(alloc: Global, a: &Poly, b: &Poly, c: &Poly) -> Result<(Poly, Poly), PolyStop>
     ensures { IsOutcome (meaning.quadratic_limit_by a.now b.now c.now)
-        (λ r. (r.0 ≡ meaning.discriminant_by a.now b.now c.now) × (r.1 ≡ scaled (pos 2) a.now)) result }
+        (λ r. (r.0 ≡ meaning.discriminant_by a.now b.now c.now)
+        × (r.1 ≡ scaled (pos 2) a.now)) result }
 {
     let square = b.mul(alloc, b)?;
     let product = a.mul(alloc, c)?.scale(alloc, Coef::small(4))?;
@@ -78,7 +80,8 @@ fn quadratic_parts(alloc: Global, a: &Poly, b: &Poly, c: &Poly) -> Result<(Poly,
 /// The root `(-b + q*sqrt(d))/(2*a)` with its guard `a <> 0 and d >= 0`.
 fn quadratic_root(alloc: Global, poly: &Poly, x: Var, q: Poly) -> Result<RootWithGuard, PolyStop>
     ensures exact { IsOutcome (meaning.quadratic_limit x.0 poly.now)
-        (IsMade (meaning.quadratic_guard x.0 poly.now) (meaning.quadratic_root x.0 poly.now q)) result }
+        (IsMade (meaning.quadratic_guard x.0 poly.now)
+        (meaning.quadratic_root x.0 poly.now q)) result }
     ensures canonical { IfOk result (λ _. spec.IsPolynomial poly.now) }
 {
     let a = poly.coefficient_in(alloc, x, 2)?;
@@ -97,7 +100,9 @@ fn quadratic_root(alloc: Global, poly: &Poly, x: Var, q: Poly) -> Result<RootWit
 
 /// The root of the kind with its guard.
 fn root(alloc: Global, poly: &Poly, x: Var, which: Which) -> Result<RootWithGuard, PolyStop>
-    ensures exact { IsOutcome (meaning.root_limit x.0 poly.now which) (IsMade (meaning.root_guard x.0 poly.now which) (meaning.root_of_kind x.0 poly.now which)) result }
+    ensures exact { IsOutcome (meaning.root_limit x.0 poly.now which)
+        (IsMade (meaning.root_guard x.0 poly.now which)
+        (meaning.root_of_kind x.0 poly.now which)) result }
     ensures canonical { IfOk result (λ _. spec.IsPolynomial poly.now) }
 {
     match which {
@@ -123,15 +128,18 @@ fn turned(alloc: Global, root: RootPoint) -> Result<RootPoint, OutOfMemory>
     })
 }
 
-/// The simplified guard with the root, or with what is just above it; `None` where that guard is `False`.
+/// The simplified guard with the root, or with what is just above it; `None` where that guard is
+/// `False`.
 fn guarded_root(
     alloc: Global,
     found: RootWithGuard,
     plus: bool,
 ) -> Result<Option<GuardedPoint>, OutOfMemory>
-    ensures exact { IfOk result (IsGuardedBy (tree found.guard) (meaning.at_or_above plus (meaning.turned found.root))) }
+    ensures exact { IfOk result
+        (IsGuardedBy (tree found.guard) (meaning.at_or_above plus (meaning.turned found.root))) }
     ensures kept { IfOk result (λ o. IfSome o (λ g. Keeps (tree found.guard) (tree g.guard))) }
-    ensures plain { IfOk result (λ o. IfSome o (λ g. IsPlain (tree found.guard) → IsSimplified (tree g.guard))) }
+    ensures plain { IfOk result
+        (λ o. IfSome o (λ g. IsPlain (tree found.guard) → IsSimplified (tree g.guard))) }
 {
     let RootWithGuard { guard, root } = found;
     let guard = simplify(alloc, guard)?;
@@ -147,18 +155,19 @@ fn guarded_root(
     Ok(Some(GuardedPoint { guard, point }))
 }
 
-/// The simplified guard and the point of a candidate; `None` where the simplified guard is `False`. With the candidate's polynomial
-/// `a*x^2 + b*x + c` and `d = b^2 - 4*a*c`:
+/// The simplified guard and the point of a candidate; `None` where the simplified guard is `False`.
+/// With the candidate's polynomial `a*x^2 + b*x + c` and `d = b^2 - 4*a*c`:
 ///
 /// - `Linear`: the guard is `b <> 0`, and with degree two `a = 0 and b <> 0`; the root is `-c/b`;
 /// - `Upper`: the guard is `a <> 0 and d >= 0`; the root is `(-b + sqrt(d))/(2*a)`;
 /// - `Lower`: the same with `(-b - sqrt(d))/(2*a)`;
 /// - minus infinity: the guard is `True`.
 ///
-/// Where the divisor is a negative number it is negated, and `p` and `q` with it. The operations of `Upper` and `Lower` are, in this
-/// order, `b*b`, `a*c`, 4 times that, the difference `d`, and 2 times `a`. The first limit that one of them meets is the answer, with
-/// the candidate's atom. The polynomial has degree one or two in the variable, and two for `Upper` and `Lower`. Where the guard is
-/// true the point has a place, where the polynomial is zero.
+/// Where the divisor is a negative number it is negated, and `p` and `q` with it. The operations of
+/// `Upper` and `Lower` are, in this order, `b*b`, `a*c`, 4 times that, the difference `d`, and 2
+/// times `a`. The first limit that one of them meets is the answer, with the candidate's atom. The
+/// polynomial has degree one or two in the variable, and two for `Upper` and `Lower`. Where the
+/// guard is true the point has a place, where the polynomial is zero.
 pub fn guarded(
     alloc: Global,
     candidate: &Candidate,
@@ -166,7 +175,8 @@ pub fn guarded(
 ) -> Result<Option<GuardedPoint>, SubstStop>
     requires { HasRoot x.0 candidate.now }
     ensures exact { IsGuardAnswer x.0 candidate.now result }
-    ensures sound { IfOk result (λ found. IfSome found (λ g. IsSound x.0 candidate.now (tree g.guard) g.point)) }
+    ensures sound { IfOk result
+        (λ found. IfSome found (λ g. IsSound x.0 candidate.now (tree g.guard) g.point)) }
 {
     match candidate {
         Candidate::MinusInf => Ok(Some(GuardedPoint {

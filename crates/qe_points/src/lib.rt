@@ -1,5 +1,5 @@
-//! Test points: which variable is eliminated first, its candidates, and the guard and the point of each.
-//! Knows nothing of substitution, nodes and blocks.
+//! Test points: which variable is eliminated first, its candidates, and the guard and the point of
+//! each. Knows nothing of substitution, nodes and blocks.
 #![tactic(auto)]
 
 mod candidate;

@@ -3,6 +3,7 @@ use Rattle.std.proofs.Common.{Option, Result, Ok, Err, IfOk, ◌≡◌, ◌↔�
 use Rattle.qe_ring.specs.Ring.{difference}
 use Rattle.qe_ring.specs.Expression.{var, nought, ◌⊕◌, ⊖◌, ◌⊗◌, ◌⊝◌}
 use Rattle.qe_ring.specs.Sign.{Sign, IsNotMinus, opposite, ◌·◌, adds, pick}
+use Rattle.qe_ring.proofs.Bools.{both_hold, one_fails, one_holds, neither, both_fail}
 use Rattle.qe_ring.proofs.Signs.{same_sign, law}
 use Rattle.qe_ring.proofs.Roots.{sign_at_root, root_has_sign}
 use Rattle.qe_tower.specs.Number.{Number, sign_of, add, mul, ValidNumber}
@@ -37,34 +38,15 @@ mapped f (disjunction s t) = disjunction (mapped f s) (mapped f t)
 and_true : (a b : Bool) → a ≡ true → b ≡ true → (a && b) ≡ true
 and_true a b left right = ap₂ ◌&&◌ left right
 
-and_parts : (a b : Bool) → (a && b) ≡ true → (a ≡ true) × (b ≡ true)
-and_parts true b holds = (refl, holds)
-and_parts false b holds = absurd (subst T (sym holds) tt)
-
 and_false : (a b : Bool) → a ≡ false ⊎ b ≡ false → (a && b) ≡ false
 and_false true b (inl left) = absurd (subst T left tt)
 and_false true b (inr right) = right
 and_false false b some = refl
 
-and_some : (a b : Bool) → (a && b) ≡ false → a ≡ false ⊎ b ≡ false
-and_some true b holds = inr holds
-and_some false b holds = inl refl
-
 or_true : (a b : Bool) → a ≡ true ⊎ b ≡ true → (a || b) ≡ true
 or_true true b some = refl
 or_true false b (inl left) = absurd (subst T (sym left) tt)
 or_true false b (inr right) = right
-
-or_some : (a b : Bool) → (a || b) ≡ true → a ≡ true ⊎ b ≡ true
-or_some true b holds = inl refl
-or_some false b holds = inr holds
-
-or_false : (a b : Bool) → a ≡ false → b ≡ false → (a || b) ≡ false
-or_false a b left right = ap₂ ◌||◌ left right
-
-or_parts : (a b : Bool) → (a || b) ≡ false → (a ≡ false) × (b ≡ false)
-or_parts true b holds = absurd (subst T holds tt)
-or_parts false b holds = (refl, holds)
 
 module _ (at : Point) where
   abbrev pub sign_at : Polynomial → Sign
@@ -78,14 +60,14 @@ module _ (at : Point) where
   is_so (conjunction s u) true truth = and_true (holds s) (holds u) (is_so s true truth.0) (is_so u true truth.1.0)
   is_so (conjunction s u) false truth = and_false (holds s) (holds u) (elim truth [ inl x ↦ inl (is_so s false x) | inr y ↦ inr (elim y [ inl z ↦ is_so u false z | inr z ↦ absurd z ]) ])
   is_so (disjunction s u) true truth = or_true (holds s) (holds u) (elim truth [ inl x ↦ inl (is_so s true x) | inr y ↦ inr (elim y [ inl z ↦ is_so u true z | inr z ↦ absurd z ]) ])
-  is_so (disjunction s u) false truth = or_false (holds s) (holds u) (is_so s false truth.0) (is_so u false truth.1.0)
+  is_so (disjunction s u) false truth = both_fail (holds s) (holds u) (is_so s false truth.0) (is_so u false truth.1.0)
 
   so_is : (s : Shape Polynomial) (t : Bool) → holds s ≡ t → Is (formula s) t at
   so_is (atom p signs) t truth = truth
-  so_is (conjunction s u) true truth = let parts = and_parts (holds s) (holds u) truth in (so_is s true parts.0, (so_is u true parts.1, tt))
-  so_is (conjunction s u) false truth = elim (and_some (holds s) (holds u) truth) [ inl x ↦ inl (so_is s false x) | inr y ↦ inr (inl (so_is u false y)) ]
-  so_is (disjunction s u) true truth = elim (or_some (holds s) (holds u) truth) [ inl x ↦ inl (so_is s true x) | inr y ↦ inr (inl (so_is u true y)) ]
-  so_is (disjunction s u) false truth = let parts = or_parts (holds s) (holds u) truth in (so_is s false parts.0, (so_is u false parts.1, tt))
+  so_is (conjunction s u) true truth = let parts = both_hold (holds s) (holds u) truth in (so_is s true parts.0, (so_is u true parts.1, tt))
+  so_is (conjunction s u) false truth = elim (one_fails (holds s) (holds u) truth) [ inl x ↦ inl (so_is s false x) | inr y ↦ inr (inl (so_is u false y)) ]
+  so_is (disjunction s u) true truth = elim (one_holds (holds s) (holds u) truth) [ inl x ↦ inl (so_is s true x) | inr y ↦ inr (inl (so_is u true y)) ]
+  so_is (disjunction s u) false truth = let parts = neither (holds s) (holds u) truth in (so_is s false parts.0, (so_is u false parts.1, tt))
 
   pub truth_of : (s : Shape Polynomial) (x : Bool) → holds s ≡ x → (t : Bool) → Is (formula s) t at ↔ (x ≡ t)
   truth_of s x same t = ((λ truth. sym same ∙ is_so s t truth), (λ equal. so_is s t (same ∙ equal)))

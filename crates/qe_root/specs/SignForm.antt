@@ -1,5 +1,5 @@
--- The formula that says of the sign of A + B*sqrt(r) that it is in a set, without the square root: by the signs of A, B, A*B and
--- N = A^2 - B^2*r.
+-- The formula stating that the sign of A + B*sqrt(r) is in a set, without the square root: by the
+-- signs of A, B, A*B and N = A^2 - B^2*r.
 use Rattle.std.specs.Prelude.{◌≡◌, ◌↔◌, Bool, cond, [], ◌∷◌, Option, None}
 use Rattle.qe_coef.specs.declared.Op.TheVariants.{Sub}
 use Rattle.qe_ring.specs.Sign.{IsNotMinus}
@@ -27,12 +27,17 @@ equal_shape e n = conjunction (atom e less_or_equal) (atom n equal)
 abbrev pub not_equal_shape : {X : Type 0} → (e n : X) → Shape X
 not_equal_shape e n = disjunction (atom e greater) (atom n not_equal)
 
--- A + B*sqrt(r) <= 0: A is not positive and counts for no less, or B is not positive and counts for no less
+-- A + B*sqrt(r) <= 0: A is not positive and counts for no less, or B is not positive and counts for
+-- no less
 abbrev pub at_most_shape : {X : Type 0} → (a b n : X) → Shape X
-at_most_shape a b n = disjunction (conjunction (atom a less_or_equal) (atom n greater_or_equal)) (conjunction (atom b less_or_equal) (atom n less_or_equal))
+at_most_shape a b n =
+    disjunction (conjunction (atom a less_or_equal) (atom n greater_or_equal))
+    (conjunction (atom b less_or_equal) (atom n less_or_equal))
 
 abbrev pub less_shape : {X : Type 0} → (a b n : X) → Shape X
-less_shape a b n = disjunction (conjunction (atom a less) (atom n greater)) (conjunction (atom b less_or_equal) (disjunction (atom a less) (atom n less)))
+less_shape a b n =
+    disjunction (conjunction (atom a less) (atom n greater))
+    (conjunction (atom b less_or_equal) (disjunction (atom a less) (atom n less)))
 
 -- `=` where zero is in the set, and else `<>`
 abbrev pub zero_shape : {X : Type 0} → (zero : Bool) → (e n : X) → Shape X
@@ -61,12 +66,14 @@ norm a b r = difference (product a a) (triple b b r)
 -- where B is zero, the atom of A
 abbrev pub sign_formula : (a b r : Polynomial) → Signs → Formula
 sign_formula a b r signs =
-    cond (is_zero b) (formula (atom a signs)) (formula (sign_shape negative signs a b (product a b) (norm a b r)))
+    cond (is_zero b) (formula (atom a signs))
+    (formula (sign_shape negative signs a b (product a b) (norm a b r)))
 
 -- ---- the first limit
 
 abbrev pub norm_limit : (a b r : Polynomial) → Option PolyLimit
-norm_limit a b r = first (product_limit a a ∷ triple_limit b b r ∷ sum_limit Sub (product a a) (triple b b r) ∷ [])
+norm_limit a b r = first (
+    product_limit a a ∷ triple_limit b b r ∷ sum_limit Sub (product a a) (triple b b r) ∷ [])
 
 -- A*B is needed for `=` and `<>`, and comes first there
 abbrev pub two_sided_limit : (a b r : Polynomial) → Option PolyLimit
@@ -84,7 +91,8 @@ pub record IsSquareRoot (r w : Number) : Type 0 where
   pub not-minus : IsNotMinus (sign_of w)
   pub square : Equal (mul w w) r
 
--- at every point where r has a square root w, the formula is true where the sign of a + b*w is among the signs, and false where it is not
+-- at every point where r has a square root w, the formula is true where the sign of a + b*w is
+-- among the signs, and false where it is not
 abbrev pub IsSignForm : (a b r : Polynomial) → Signs → Formula → Type 0
 IsSignForm a b r signs f = (at : Point) → IsPoint at → (w : Number) → IsSquareRoot (value r at) w
     → (t : Bool) → Is f t at ↔ (has_sign signs (sign_of (add (value a at) (mul (value b at) w))) ≡ t)

@@ -1,4 +1,5 @@
-//! The formula for the sign of `A + B*sqrt(r)`, by the signs of `A`, `B`, `A*B` and `N = A^2 - B^2*r`.
+//! The formula for the sign of `A + B*sqrt(r)`, by the signs of `A`, `B`, `A*B` and `N = A^2 -
+//! B^2*r`.
 
 ghost use Rattle.std.specs.Prelude.{◌≡◌, IfOk};
 ghost use Rattle.qe_poly.specs.Polynomial as spec;
@@ -14,7 +15,8 @@ use std::alloc::Global;
 
 /// The formula for `=`, or that for `<>`, from `A*B` and `N`.
 fn zero_form(alloc: Global, product: Poly, norm: Poly, signs: Signs) -> Result<Form, OutOfMemory>
-    ensures { IfOk result (λ f. tree f ≡ shape.formula (meaning.zero_shape signs.zero product norm)) }
+    ensures { IfOk result
+        (λ f. tree f ≡ shape.formula (meaning.zero_shape signs.zero product norm)) }
 {
     if signs.has_zero() {
         let apart = Form::atom(product, Signs::LESS_OR_EQUAL);
@@ -50,7 +52,8 @@ fn less_form(alloc: Global, plain: Poly, root: Poly, norm: Poly) -> Result<Form,
 
 /// `N = A^2 - B^2*r`.
 fn norm(alloc: Global, plain: &Poly, root: &Poly, radicand: &Poly) -> Result<Poly, PolyStop>
-    ensures { IsAnswer (meaning.norm_limit plain.now root.now radicand.now) (meaning.norm plain.now root.now radicand.now) result }
+    ensures { IsAnswer (meaning.norm_limit plain.now root.now radicand.now)
+        (meaning.norm plain.now root.now radicand.now) result }
 {
     let square = plain.mul(alloc, plain)?;
     let root_square = triple(alloc, root, root, radicand)?;
@@ -77,8 +80,8 @@ fn two_sided_form(
     signs: Signs,
 ) -> Result<Form, PolyStop>
     ensures { IsOutcome (meaning.two_sided_limit plain.now root.now radicand.now)
-        (λ f. tree f ≡ shape.formula (meaning.zero_shape signs.zero (spec.product plain.now root.now)
-        (meaning.norm plain.now root.now radicand.now))) result }
+        (λ f. tree f ≡ shape.formula (meaning.zero_shape signs.zero
+        (spec.product plain.now root.now) (meaning.norm plain.now root.now radicand.now))) result }
 {
     let product = plain.mul(alloc, root)?;
     let norm = norm(alloc, plain, root, radicand)?;
@@ -94,8 +97,9 @@ fn one_sided_form(
     signs: Signs,
 ) -> Result<Form, PolyStop>
     ensures { IsOutcome (meaning.norm_limit plain.now root.now radicand.now)
-        (λ f. tree f ≡ shape.formula (meaning.side_shape signs.zero (meaning.facing spec.negative signs plain.now)
-        (meaning.facing spec.negative signs root.now) (meaning.norm plain.now root.now radicand.now))) result }
+        (λ f. tree f ≡ shape.formula (meaning.side_shape signs.zero
+        (meaning.facing spec.negative signs plain.now) (meaning.facing spec.negative signs root.now)
+        (meaning.norm plain.now root.now radicand.now))) result }
 {
     let norm = norm(alloc, plain, root, radicand)?;
     let plain = facing(alloc, plain, signs)?;
@@ -107,16 +111,17 @@ fn one_sided_form(
     }
 }
 
-/// The formula stating that the sign of `a + b*sqrt(r)` is in the set, wherever `r` is not negative; after Weispfenning (1997). The
-/// set is neither empty nor full. Where `b` is 0 the formula is the atom of `a`. Else, with `N = a^2 - b^2*r`, it is
+/// The formula stating that the sign of `a + b*sqrt(r)` is in the set, wherever `r` is not
+/// negative; after Weispfenning (1997). The set is neither empty nor full. Where `b` is 0 the
+/// formula is the atom of `a`. Else, with `N = a^2 - b^2*r`, it is
 ///
 /// - for `=`: `a*b <= 0 and N = 0`, and for `<>` the opposite;
 /// - for `<=`: `[a <= 0 and N >= 0] or [b <= 0 and N <= 0]`;
 /// - for `<`: `[a < 0 and N > 0] or [b <= 0 and [a < 0 or N < 0]]`;
 /// - for `>=` and `>`: those of `<=` and `<` with `-a` and `-b`.
 ///
-/// The operations are, in this order, `a*b` for `=` and `<>` alone, `a*a`, `b*b`, that times `r`, and the difference. The first limit
-/// that an operation meets is the answer.
+/// The operations are, in this order, `a*b` for `=` and `<>` alone, `a*a`, `b*b`, that times `r`,
+/// and the difference. The first limit that an operation meets is the answer.
 pub fn sign_form(
     alloc: Global,
     a: &Poly,

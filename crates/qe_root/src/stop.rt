@@ -19,7 +19,8 @@ pub enum Stage {
 /// Why a substitution gives no formula.
 #[derive(Clone, Copy, Debug, PartialEq, Eq)]
 pub enum SubstStop {
-    /// An operation on polynomials met a limit: at the atom with this number, counted from 0, in this step.
+    /// An operation on polynomials met a limit: at the atom with this number, counted from 0, in
+    /// this step.
     At {
         atom: u64,
         stage: Stage,

@@ -14,7 +14,8 @@ use std::alloc::Global;
 
 /// The product of three polynomials, from the left.
 pub fn triple(alloc: Global, a: &Poly, b: &Poly, c: &Poly) -> Result<Poly, PolyStop>
-    ensures { IsAnswer (meaning.triple_limit a.now b.now c.now) (meaning.triple a.now b.now c.now) result }
+    ensures { IsAnswer
+        (meaning.triple_limit a.now b.now c.now) (meaning.triple a.now b.now c.now) result }
 {
     a.mul(alloc, b)?.mul(alloc, c)
 }
@@ -30,7 +31,8 @@ fn square(alloc: Global, point: &RootPoint) -> Result<Poly, PolyStop>
 
 /// `alpha*(p^2 + q^2*r)`; nothing is computed where `alpha` is 0.
 fn quadratic_term(alloc: Global, alpha: &Poly, point: &RootPoint) -> Result<Poly, PolyStop>
-    ensures { IsAnswer (meaning.quadratic_term_limit alpha.now point.now) (spec.product alpha.now (meaning.square point.now)) result }
+    ensures { IsAnswer (meaning.quadratic_term_limit alpha.now point.now)
+        (spec.product alpha.now (meaning.square point.now)) result }
 {
     if alpha.is_zero() {
         return Ok(Poly::constant(alloc, Coef::zero())?);
@@ -40,7 +42,8 @@ fn quadratic_term(alloc: Global, alpha: &Poly, point: &RootPoint) -> Result<Poly
 
 /// `2*alpha*p*q`; nothing is computed where `alpha` is 0.
 fn double_term(alloc: Global, alpha: &Poly, point: &RootPoint) -> Result<Poly, PolyStop>
-    ensures { IsAnswer (meaning.double_term_limit alpha.now point.now) (scaled (pos 2) (meaning.triple alpha.now point.now.p point.now.q)) result }
+    ensures { IsAnswer (meaning.double_term_limit alpha.now point.now)
+        (scaled (pos 2) (meaning.triple alpha.now point.now.p point.now.q)) result }
 {
     if alpha.is_zero() {
         return Ok(Poly::constant(alloc, Coef::zero())?);
@@ -56,7 +59,8 @@ fn plain_part(
     gamma: &Poly,
     point: &RootPoint,
 ) -> Result<Poly, PolyStop>
-    ensures { IsAnswer (meaning.plain_part_limit alpha.now beta.now gamma.now point.now) (meaning.plain_part alpha.now beta.now gamma.now point.now) result }
+    ensures { IsAnswer (meaning.plain_part_limit alpha.now beta.now gamma.now point.now)
+        (meaning.plain_part alpha.now beta.now gamma.now point.now) result }
 {
     let quadratic_term = quadratic_term(alloc, alpha, point)?;
     let linear_term = triple(alloc, beta, &point.p, &point.s)?;
@@ -69,18 +73,20 @@ fn plain_part(
 
 /// `B = 2*alpha*p*q + beta*q*s`.
 fn root_part(alloc: Global, alpha: &Poly, beta: &Poly, point: &RootPoint) -> Result<Poly, PolyStop>
-    ensures { IsAnswer (meaning.root_part_limit alpha.now beta.now point.now) (meaning.root_part alpha.now beta.now point.now) result }
+    ensures { IsAnswer (meaning.root_part_limit alpha.now beta.now point.now)
+        (meaning.root_part alpha.now beta.now point.now) result }
 {
     let double_term = double_term(alloc, alpha, point)?;
     let linear_term = triple(alloc, beta, &point.q, &point.s)?;
     double_term.add(alloc, &linear_term)
 }
 
-/// The polynomials `A` and `B` of the other variables with `s^2*f = A + B*sqrt(r)` at `x = (p + q*sqrt(r))/s`, wherever `s` is not 0
-/// and `r` not negative; after Weispfenning (1997). The degree in `x` is at most 2. With `f = alpha*x^2 + beta*x + gamma` the
-/// operations are, in this order, those of `alpha*(p^2 + q^2*r)`, `beta*p*s` and `gamma*s^2`, the two sums to `A`, those of
-/// `2*alpha*p*q` and `beta*q*s`, and the sum to `B`; what `alpha` is multiplied by is left out where `alpha` is 0. The first limit
-/// that an operation meets is the answer.
+/// The polynomials `A` and `B` of the other variables with `s^2*f = A + B*sqrt(r)` at `x = (p +
+/// q*sqrt(r))/s`, wherever `s` is not 0 and `r` not negative; after Weispfenning (1997). The degree
+/// in `x` is at most 2. With `f = alpha*x^2 + beta*x + gamma` the operations are, in this order,
+/// those of `alpha*(p^2 + q^2*r)`, `beta*p*s` and `gamma*s^2`, the two sums to `A`, those of
+/// `2*alpha*p*q` and `beta*q*s`, and the sum to `B`; what `alpha` is multiplied by is left out
+/// where `alpha` is 0. The first limit that an operation meets is the answer.
 pub fn at_root(
     alloc: Global,
     poly: &Poly,
@@ -89,7 +95,8 @@ pub fn at_root(
 ) -> Result<(Poly, Poly), PolyStop>
     requires { degree_in x.0 poly.now ≤ 2 }
     ensures exact { IsOutcome (meaning.value_limit poly.now x.0 point.now)
-        (λ parts. (parts.0 ≡ meaning.plain_part_of poly.now x.0 point.now) × (parts.1 ≡ meaning.root_part_of poly.now x.0 point.now)) result }
+        (λ parts. (parts.0 ≡ meaning.plain_part_of poly.now x.0 point.now)
+        × (parts.1 ≡ meaning.root_part_of poly.now x.0 point.now)) result }
     ensures truth { IfOk result (λ parts. meaning.AreParts poly.now x.0 point.now parts.0 parts.1) }
 {
     let coefficients = poly.coeffs_in(alloc, x)?;

@@ -9,7 +9,7 @@ ghost use Rattle.qe_subst.specs.Substituted as spec;
 use crate::{Form, Forms, OutOfMemory, Poly, Sequence, Signs, Var};
 use std::alloc::Global;
 
-/// The atom that the coefficient of a power of the variable has a sign of the set.
+/// The atom stating that the coefficient of a power of the variable has a sign of the set.
 fn coefficient(
     alloc: Global,
     x: Var,
@@ -17,12 +17,14 @@ fn coefficient(
     exponent: u32,
     signs: Signs,
 ) -> Result<Form, OutOfMemory>
-    ensures { IfOk result (λ f. tree f ≡ making.atomic (coefficient_in x.0 exponent poly.now) signs) }
+    ensures { IfOk result
+        (λ f. tree f ≡ making.atomic (coefficient_in x.0 exponent poly.now) signs) }
 {
     Ok(Form::atom(poly.coefficient_in(alloc, x, exponent)?, signs))
 }
 
-/// An atom on each coefficient of a polynomial of degree one or two, that of the highest power first.
+/// An atom on each coefficient of a polynomial of degree one or two, that of the highest power
+/// first.
 fn each_coefficient(
     alloc: Global,
     x: Var,
@@ -43,7 +45,7 @@ fn each_coefficient(
     Ok(parts)
 }
 
-/// For `=` that each coefficient is zero, and for `<>` that some is not.
+/// The formula stating for `=` that each coefficient is zero, and for `<>` that some is not.
 pub fn everywhere(
     alloc: Global,
     x: Var,
@@ -64,18 +66,19 @@ pub fn everywhere(
     }
 }
 
-/// Below all numbers b*x + c has a sign of the set: b has the opposite of one, or it is zero and c has one.
+/// The formula stating that `b*x + c` has a sign of the set below all numbers: `b` has the opposite
+/// of one, or it is zero and `c` has one.
 fn line_below(alloc: Global, x: Var, poly: &Poly, signs: Signs) -> Result<Form, OutOfMemory>
     ensures { IfOk result (λ f. tree f ≡ spec.line_below x.0 poly.now signs) }
 {
     let opposite = coefficient(alloc, x, poly, 1, signs.strict().mirror())?;
     let zero = coefficient(alloc, x, poly, 1, Signs::EQUAL)?;
-    let rest = coefficient(alloc, x, poly, 0, signs)?;
-    let flat = Form::both(alloc, zero, rest)?;
+    let constant = coefficient(alloc, x, poly, 0, signs)?;
+    let flat = Form::both(alloc, zero, constant)?;
     Form::either(alloc, opposite, flat)
 }
 
-/// Both a and b are zero, and c has a sign of the set.
+/// The formula stating that `a` and `b` are zero, and `c` has a sign of the set.
 fn constant_below(alloc: Global, x: Var, poly: &Poly, signs: Signs) -> Result<Form, OutOfMemory>
     ensures { IfOk result (λ f. tree f ≡ spec.constant_below x.0 poly.now signs) }
 {
@@ -86,21 +89,22 @@ fn constant_below(alloc: Global, x: Var, poly: &Poly, signs: Signs) -> Result<Fo
     Ok(Form::And(parts))
 }
 
-/// Below all numbers a*x^2 + b*x + c has a sign of the set: a has one, or it is zero and b has the opposite of one, or both are zero
-/// and c has one.
+/// The formula stating that `a*x^2 + b*x + c` has a sign of the set below all numbers: `a` has one,
+/// or it is zero and `b` has the opposite of one, or both are zero and `c` has one.
 fn quadratic_below(alloc: Global, x: Var, poly: &Poly, signs: Signs) -> Result<Form, OutOfMemory>
     ensures { IfOk result (λ f. tree f ≡ spec.quadratic_below x.0 poly.now signs) }
 {
     let zero = coefficient(alloc, x, poly, 2, Signs::EQUAL)?;
-    let turned = coefficient(alloc, x, poly, 1, signs.strict().mirror())?;
+    let opposite = coefficient(alloc, x, poly, 1, signs.strict().mirror())?;
     let mut parts = Sequence::new(alloc);
     parts.push(coefficient(alloc, x, poly, 2, signs.strict())?)?;
-    parts.push(Form::both(alloc, zero, turned)?)?;
+    parts.push(Form::both(alloc, zero, opposite)?)?;
     parts.push(constant_below(alloc, x, poly, signs)?)?;
     Ok(Form::Or(parts))
 }
 
-/// What says that the polynomial, of degree one or two, has a sign of the set below all numbers.
+/// The formula stating that the polynomial, of degree one or two, has a sign of the set below all
+/// numbers.
 pub fn below(
     alloc: Global,
     x: Var,

@@ -24,7 +24,8 @@ use std::alloc::Global;
 /// The most atoms and constants that a substituted formula may have.
 const MOST_ATOMS: u32 = 65_536;
 
-/// A point at which a variable is tested, with the polynomial that its root comes from, where there is one.
+/// A point at which a variable is tested, with the polynomial that its root comes from, where there
+/// is one.
 #[derive(Drop)]
 struct TestPoint<'a> {
     x: Var,
@@ -88,7 +89,8 @@ impl TestPoint<'_> {
         ensures made { let t = self.now in let f = tree form.now in IsOutcomeBy met_limit
             (meaning.first_limit t.x.0 t.point.now (option_copied t.own) number.old (atoms f))
             (λ g. tree g ≡ spec.substituted t.x.0 t.point.now (option_copied t.own) f) result }
-        ensures number { IfOk result (λ _. number.new ≡ meaning.number_after number.old (atoms (tree form.now))) }
+        ensures number { IfOk result
+            (λ _. number.new ≡ meaning.number_after number.old (atoms (tree form.now))) }
         ensures canonical { IfOk result (λ _. HasCanonicalAtoms (tree form.now)) }
     {
         match form {
@@ -117,8 +119,10 @@ impl TestPoint<'_> {
         requires plain { ArePlainWith (λ a. IsProper a.signs) (trees forms.now) }
         ensures made { let t = self.now in let fs = trees forms.now in IsOutcomeBy met_limit
             (meaning.first_limit t.x.0 t.point.now (option_copied t.own) number.old (atoms_of fs))
-            (λ gs. trees gs ≡ spec.substituted_each t.x.0 t.point.now (option_copied t.own) fs) result }
-        ensures number { IfOk result (λ _. number.new ≡ meaning.number_after number.old (atoms_of (trees forms.now))) }
+            (λ gs. trees gs
+            ≡ spec.substituted_each t.x.0 t.point.now (option_copied t.own) fs) result }
+        ensures number { IfOk result
+            (λ _. number.new ≡ meaning.number_after number.old (atoms_of (trees forms.now))) }
         ensures canonical { IfOk result (λ _. HaveCanonicalAtoms (trees forms.now)) }
     {
         let mut made = Sequence::new(alloc);
@@ -129,16 +133,18 @@ impl TestPoint<'_> {
     }
 }
 
-/// The formula with the variable at the test point; after Weispfenning (1997) and Loos and Weispfenning (1993). It is plain, with
-/// sets of signs that are neither empty nor full, and each atom has degree at most 2 in `x`. `own` is the polynomial that the root
-/// comes from, where there is one: it is zero at the root, so no operation is needed for it.
+/// The formula with the variable at the test point; after Weispfenning (1997) and Loos and
+/// Weispfenning (1993). It is plain, with sets of signs that are neither empty nor full, and each
+/// atom has degree at most 2 in `x`. `own` is the polynomial that the root comes from, where there
+/// is one: it is zero at the root, so no operation is needed for it.
 ///
-/// At a root the result is true exactly where the formula is true with `x` given the root's value. At a root plus an infinitesimal it
-/// is true exactly where the formula is true with `x` given any number that is more than the value and less than some bound. At minus
-/// infinity it is true exactly where the formula is true with `x` given any number below some bound.
+/// At a root the result is true exactly where the formula is true with `x` given the root's value.
+/// At a root plus an infinitesimal it is true exactly where the formula is true with `x` given any
+/// number that is more than the value and less than some bound. At minus infinity it is true
+/// exactly where the formula is true with `x` given any number below some bound.
 ///
-/// `At` is the first limit that an operation on polynomials meets, atom by atom from left to right. Where there is none, `TooLarge`
-/// comes if the result has more than 65,536 atoms and constants.
+/// `At` is the first limit that an operation on polynomials meets, atom by atom from left to right.
+/// Where there is none, `TooLarge` comes if the result has more than 65,536 atoms and constants.
 pub fn substitute(
     alloc: Global,
     form: &Form,
@@ -151,7 +157,8 @@ pub fn substitute(
     ensures exact { let f = tree form.now in
         IsOutcomeBy met_limit (meaning.stop x.0 point.now (option_copied own.entry) f)
         (λ g. tree g ≡ spec.substituted x.0 point.now (option_copied own.entry) f) result }
-    ensures truth { IfOk result (λ g. StandsFor x.0 point.now (option_copied own.entry) (tree form.now) (tree g)) }
+    ensures truth { IfOk result
+        (λ g. StandsFor x.0 point.now (option_copied own.entry) (tree form.now) (tree g)) }
     ensures plain { IfOk result (λ g. IsPlainAndProper (tree g)) }
     ensures left { IfOk result (λ g. IsLeft x.0 point.now (tree form.now) (tree g)) }
 {

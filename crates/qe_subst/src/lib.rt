@@ -1,5 +1,6 @@
-//! Substitution of a test point for a variable of degree two at most: at a root, just above a root, or below all numbers.
-//! Knows nothing of candidates, guards and nodes, nor of how a formula is simplified.
+//! Substitution of a test point for a variable of degree two at most: at a root, just above a root,
+//! or below all numbers. Knows nothing of candidates, guards and nodes, nor of how a formula is
+//! simplified.
 #![tactic(auto)]
 
 mod below;

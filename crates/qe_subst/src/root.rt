@@ -32,7 +32,8 @@ fn derivative(alloc: Global, x: Var, poly: &Poly) -> Result<Poly, AtomStop>
     }
 }
 
-/// A root at which a variable is tested, with the polynomial that it comes from, where there is one.
+/// A root at which a variable is tested, with the polynomial that it comes from, where there is
+/// one.
 #[derive(Drop)]
 pub struct TestRoot<'a> {
     pub x: Var,
@@ -40,7 +41,8 @@ pub struct TestRoot<'a> {
     pub own: Option<&'a Poly>,
 }
 
-/// The formula stating that a polynomial's sign at the root is in a set without zero, and the one stating that it is zero there.
+/// The formula stating that a polynomial's sign at the root is in a set without zero, and the one
+/// stating that it is zero there.
 #[derive(Drop)]
 struct AtRoot {
     unequal: Form,
@@ -49,7 +51,8 @@ struct AtRoot {
 
 /// Either the first formula, or both the second and the one for the derivative.
 fn joined(alloc: Global, at: AtRoot, rest: Form) -> Result<Form, OutOfMemory>
-    ensures { IfOk result (λ f. tree f ≡ making.either (tree at.unequal) (making.both (tree at.zero) (tree rest))) }
+    ensures { IfOk result
+        (λ f. tree f ≡ making.either (tree at.unequal) (making.both (tree at.zero) (tree rest))) }
 {
     let rising = Form::both(alloc, at.zero, rest)?;
     Form::either(alloc, at.unequal, rising)
@@ -69,7 +72,8 @@ impl TestRoot<'_> {
     /// The parts A and B of the polynomial's value at the root.
     fn parts(&self, alloc: Global, poly: &Poly) -> Result<(Poly, Poly), AtomStop>
         requires { degree_in self.now.x.0 poly.now ≤ 2 }
-        ensures { let t = self.now in IsOutcome (in_stage stage.Root (value.value_limit poly.now t.x.0 t.root.now))
+        ensures { let t = self.now in IsOutcome
+            (in_stage stage.Root (value.value_limit poly.now t.x.0 t.root.now))
             (λ parts. (parts.0 ≡ value.plain_part_of poly.now t.x.0 t.root.now)
             × (parts.1 ≡ value.root_part_of poly.now t.x.0 t.root.now)) result }
     {
@@ -82,8 +86,9 @@ impl TestRoot<'_> {
     /// The formula for the sign of A + B*sqrt(r).
     fn sign(&self, alloc: Global, parts: &(Poly, Poly), signs: Signs) -> Result<Form, AtomStop>
         requires { IsProper signs }
-        ensures { IsOutcome (in_stage stage.Sign (sign_form.sign_limit parts.now.0 parts.now.1 self.now.root.now.r signs))
-            (λ f. tree f ≡ sign_form.sign_formula parts.now.0 parts.now.1 self.now.root.now.r signs) result }
+        ensures { let r = self.now.root.now.r in IsOutcome
+            (in_stage stage.Sign (sign_form.sign_limit parts.now.0 parts.now.1 r signs))
+            (λ f. tree f ≡ sign_form.sign_formula parts.now.0 parts.now.1 r signs) result }
     {
         match sign_form(alloc, &parts.0, &parts.1, &self.root.r, signs) {
             Ok(form) => Ok(form),
@@ -91,13 +96,15 @@ impl TestRoot<'_> {
         }
     }
 
-    /// The formula stating that the polynomial's sign at the root is in the set. The root's own polynomial is zero there.
+    /// The formula stating that the polynomial's sign at the root is in the set. The root's own
+    /// polynomial is zero there.
     pub fn at(&self, alloc: Global, poly: &Poly, signs: Signs) -> Result<Form, AtomStop>
         requires degree { degree_in self.now.x.0 poly.now ≤ 2 }
         requires proper { IsProper signs }
         ensures { let t = self.now in IsOutcome
             (spec.at_root_fault t.x.0 (option_copied t.own) t.root.now poly.now signs)
-            (λ f. tree f ≡ spec.at_root t.x.0 (option_copied t.own) t.root.now poly.now signs) result }
+            (λ f. tree f
+            ≡ spec.at_root t.x.0 (option_copied t.own) t.root.now poly.now signs) result }
     {
         if self.is_own(poly) {
             return Ok(Form::constant(signs.has_zero()));
@@ -129,16 +136,19 @@ impl TestRoot<'_> {
         Ok(AtRoot { unequal, zero })
     }
 
-    /// The formula stating that the polynomial, which has the variable, has a sign of the set just above the root: at the root it
-    /// has one other than zero, or it is zero there and its derivative has a sign of the set just above the root.
+    /// The formula stating that the polynomial, which has the variable, has a sign of the set just
+    /// above the root: at the root it has one other than zero, or it is zero there and its
+    /// derivative has a sign of the set just above the root.
     #[cycle(near)]
     fn near(&self, alloc: Global, poly: &Poly, signs: Signs) -> Result<Form, AtomStop>
         requires canonical { IsPolynomial poly.now }
         requires degree { degree_in self.now.x.0 poly.now ≤ 2 }
         requires proper { IsProper (signs_of.strict signs) }
-        ensures { let t = self.now in let n = suc (degree_in t.x.0 (derivative t.x.0 poly.now)) in IsOutcome
+        ensures { let t = self.now in let n = suc (degree_in t.x.0 (derivative t.x.0 poly.now)) in
+            IsOutcome
             (spec.near_fault t.x.0 (option_copied t.own) t.root.now n poly.now signs)
-            (λ f. tree f ≡ spec.near t.x.0 (option_copied t.own) t.root.now n poly.now signs) result }
+            (λ f. tree f
+            ≡ spec.near t.x.0 (option_copied t.own) t.root.now n poly.now signs) result }
     {
         let at = self.at_both(alloc, poly, signs)?;
         let derivative = derivative(alloc, self.x, poly)?;
@@ -158,7 +168,8 @@ impl TestRoot<'_> {
         requires proper { IsProper (signs_of.strict signs) }
         ensures { let t = self.now in let n = degree_in t.x.0 derivative in IsOutcome
             (spec.near_fault t.x.0 (option_copied t.own) t.root.now n derivative signs)
-            (λ f. tree f ≡ spec.near t.x.0 (option_copied t.own) t.root.now n derivative signs) result }
+            (λ f. tree f
+            ≡ spec.near t.x.0 (option_copied t.own) t.root.now n derivative signs) result }
     {
         if derivative.degree_in(self.x) == 0 {
             return Ok(Form::atom(derivative, signs));
@@ -166,7 +177,8 @@ impl TestRoot<'_> {
         self.near(alloc, &derivative, signs)
     }
 
-    /// The formula stating that the polynomial, of degree one or two, has a sign of the set just above the root.
+    /// The formula stating that the polynomial, of degree one or two, has a sign of the set just
+    /// above the root.
     #[tactic(auto, using(crate::proofs::ProperSigns::strict_proper))]
     pub fn above(
         &self,
@@ -182,7 +194,8 @@ impl TestRoot<'_> {
         requires proper { IsProper signs }
         ensures { let t = self.now in IsOutcome
             (spec.above_root_fault t.x.0 (option_copied t.own) t.root.now poly.now signs)
-            (λ f. tree f ≡ spec.above_root t.x.0 (option_copied t.own) t.root.now poly.now signs) result }
+            (λ f. tree f
+            ≡ spec.above_root t.x.0 (option_copied t.own) t.root.now poly.now signs) result }
     {
         if signs.is_even() {
             return Ok(everywhere(alloc, self.x, poly, degree, signs)?);
