@@ -30,8 +30,7 @@ use Rattle.qe_points.specs.declared.candidate.Which.TheVariants.{Linear, Upper, 
 use Rattle.qe_points.specs.Guard.{discriminant_by, discriminant, linear_guard, quadratic_guard, root_guard, turned, quadratic_root, root_of_kind}
 use Rattle.qe_points.specs.Guarded.{Fits}
 use Rattle.qe_poly.specs.Numbers.{is_negative}
-use Rattle.qe_poly.proofs.Occurring.{coefficient_past}
-use Rattle.qe_points.proofs.OnLine.{sign_with}
+use Rattle.qe_root.proofs.OnLine.{sign_with, no_coefficient}
 
 -- ---- signs
 
@@ -229,10 +228,6 @@ module _ (p : Point) (valid : IsPoint p) where
     radicand_is = valid_ordered.sign-same (val (discriminant x f)) (line.discriminant valid_operations A B C)
         (discriminant_is (coefficient_in x 2 f) (coefficient_in x 1 f) (coefficient_in x 0 f))
 
-    -- past the degree a coefficient is zero
-    no_coefficient : (k : ℕ) → degree_in x f < k → valid_sign (val (coefficient_in x k f)) ≡ Zero
-    no_coefficient k low = ap (λ c. sign_of (value c p)) (coefficient_past x k f low)
-
     clash : {P : Type 0} (s : Sign) → IsNotZero s → s ≡ Zero → P
     clash s h e = absurd (subst (λ t. IsNotZero t) e h)
 
@@ -240,8 +235,8 @@ module _ (p : Point) (valid : IsPoint p) where
     degree_two low a = by (degree_in x f) refl low
       where
         by : (n : ℕ) → degree_in x f ≡ n → n ≤ 2 → degree_in x f ≡ 2
-        by nought e l = clash (valid_sign A) a (no_coefficient 2 (omega arith))
-        by (suc nought) e l = clash (valid_sign A) a (no_coefficient 2 (omega arith))
+        by nought e l = clash (valid_sign A) a (no_coefficient x p valid 2 f (omega arith))
+        by (suc nought) e l = clash (valid_sign A) a (no_coefficient x p valid 2 f (omega arith))
         by (suc (suc nought)) e l = e
         by (suc (suc (suc n))) e l = absurd (omega arith)
 
@@ -250,7 +245,7 @@ module _ (p : Point) (valid : IsPoint p) where
     has_degree Linear v low h = (positive (degree_in x f) refl, low)
       where
         positive : (n : ℕ) → degree_in x f ≡ n → 0 < n
-        positive nought none = clash (valid_sign B) h.1.divisor (no_coefficient 1 (omega arith))
+        positive nought none = clash (valid_sign B) h.1.divisor (no_coefficient x p valid 1 f (omega arith))
         positive (suc n) some = omega arith
     has_degree Upper v low h = degree_two low (half A h.divisor)
     has_degree Lower v low h = degree_two low (half A h.divisor)
@@ -281,7 +276,7 @@ module _ (p : Point) (valid : IsPoint p) where
             → Is (cond b (both (atomic (coefficient_in x 2 f) equal) (atomic (coefficient_in x 1 f) not_equal)) (atomic (coefficient_in x 1 f) not_equal)) true p
             → (valid_sign A ≡ Zero) × IsNotZero (valid_sign B)
         by true test h = (equal_sign (valid_sign A) h.0, not_equal_sign (valid_sign B) h.1.0)
-        by false test h = (no_coefficient 2 (below_two (degree_in x f) low test), not_equal_sign (valid_sign B) h)
+        by false test h = (no_coefficient x p valid 2 f (below_two (degree_in x f) low test), not_equal_sign (valid_sign B) h)
 
     quadratic_says : Is (quadratic_guard x f) true p → IsNotZero (valid_sign A) × IsNotMinus (valid_sign (line.discriminant valid_operations A B C))
     quadratic_says g = (not_equal_sign (valid_sign A) g.0, subst (λ s. IsNotMinus s) radicand_is (at_least_sign (valid_sign (val (discriminant x f))) g.1.0))

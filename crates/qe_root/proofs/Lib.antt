@@ -1,4 +1,5 @@
-mod Values
+pub mod Values
+pub mod OnLine
 pub mod RootValue
 mod SignTable
 pub mod SignTruth

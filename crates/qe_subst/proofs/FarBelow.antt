@@ -16,7 +16,8 @@ use Rattle.qe_form.specs.Truth.{has_sign}
 use Rattle.qe_subst.specs.Substituted.{each_coefficient, everywhere, line_below, constant_below, quadratic_below, at_minus_infinity}
 use Rattle.qe_subst.proofs.SignTests.{line_test, quadratic_test, each_zero, some_not_zero, zero_below}
 use Rattle.qe_subst.proofs.TestFormulas.{Reads, rereads, reads_sign, and_more, or_more, reads_both, reads_either}
-use Rattle.qe_subst.proofs.OnLine.{coefficient, sign_at_place, no_coefficient}
+use Rattle.qe_root.proofs.OnLine.{coefficient, no_coefficient}
+use Rattle.qe_subst.proofs.OnLine.{sign_at_place}
 
 -- of the sets that are neither empty nor full
 even_sets : (P : Signs → Type 0) → P equal → P not_equal → (s : Signs) → IsProper s → is_even s ≡ true → P s

@@ -32,7 +32,8 @@ use Rattle.qe_subst.proofs.Derivatives.{degree_of_derivative, coefficient_of_der
 use Rattle.qe_subst.proofs.ProperSigns.{equal_proper}
 use Rattle.qe_subst.proofs.SignTests.{near_test}
 use Rattle.qe_subst.proofs.TestFormulas.{Reads, rereads, reads_sign, reads_both, reads_either}
-use Rattle.qe_subst.proofs.OnLine.{at_number, coefficient, sign_at_place, sign_with, no_coefficient, sign_stays}
+use Rattle.qe_root.proofs.OnLine.{at_number, coefficient, sign_with, no_coefficient}
+use Rattle.qe_subst.proofs.OnLine.{sign_at_place, sign_stays}
 use Rattle.qe_subst.proofs.AtRoot.{at_root_reads}
 
 abbrev R : IsRing valid_operations ValidEqual

@@ -27,7 +27,8 @@ use Rattle.qe_root.specs.Atoms.{HasCanonicalAtoms, HaveCanonicalAtoms}
 use Rattle.qe_subst.specs.Substituted.{everywhere, near, at_point, for_atom, substituted, substituted_each}
 use Rattle.qe_subst.proofs.ProperSigns.{strict_proper}
 use Rattle.qe_subst.proofs.TestFormulas.{Reads, rereads, reads_sign}
-use Rattle.qe_subst.proofs.OnLine.{at_number, coefficient, HoldsThere, sign_at_place, sign_with, sign_there, sign_stays}
+use Rattle.qe_root.proofs.OnLine.{at_number, coefficient, sign_with}
+use Rattle.qe_subst.proofs.OnLine.{HoldsThere, sign_at_place, sign_there, sign_stays}
 use Rattle.qe_subst.proofs.AtRoot.{at_root_reads}
 use Rattle.qe_subst.proofs.JustAbove.{near_reads}
 use Rattle.qe_subst.proofs.FarBelow.{everywhere_reads, below_reads}
