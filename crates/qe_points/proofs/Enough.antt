@@ -34,7 +34,8 @@ use Rattle.qe_points.specs.Guarded.{Fits, IsOf}
 use Rattle.qe_points.specs.Complete.{HoldsAtCandidate, HoldsAtOne, IsComplete}
 use Rattle.qe_points.proofs.Members.{IsIn, in_left, in_right, of_append, in_flat, of_flat, of_map, all_in, of_all, in_distinct, of_distinct}
 use Rattle.qe_points.proofs.OnLine.{IsRootOf, atom_reaches, formula_reaches}
-use Rattle.qe_points.proofs.Roots.{IsRootAt, to_value, turned_value, to_root, has_degree, guard_true}
+use Rattle.qe_root.proofs.RootValue.{to_value}
+use Rattle.qe_points.proofs.Roots.{IsRootAt, turned_value, to_root, has_degree, guard_true}
 
 -- ---- the atoms of a formula
 

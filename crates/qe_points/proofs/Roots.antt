@@ -24,7 +24,7 @@ use Rattle.qe_form.proofs.Values.{value_valid, value_of_sum, value_of_negative, 
 use Rattle.qe_root.specs.declared.point.RootPoint.{RootPoint}
 use Rattle.qe_form.specs.Making.{atomic, both}
 use Rattle.qe_form.specs.Signs.{equal, not_equal, greater_or_equal}
-use Rattle.qe_root.specs.Value.{IsValue}
+use Rattle.qe_root.proofs.RootValue.{IsValidRoot}
 use Rattle.qe_points.specs.declared.candidate.Which.{Which}
 use Rattle.qe_points.specs.declared.candidate.Which.TheVariants.{Linear, Upper, Lower}
 use Rattle.qe_points.specs.Guard.{discriminant_by, discriminant, linear_guard, quadratic_guard, root_guard, turned, quadratic_root, root_of_kind}
@@ -87,50 +87,29 @@ module _ (p : Point) (valid : IsPoint p) where
   abbrev pub val : Polynomial → ValidNumber
   val f = (value f p, value_valid p valid f)
 
-  -- v is the value of the root, as numbers with their proofs
-  abbrev pub IsValidRoot : RootPoint → ValidNumber → Type 0
-  IsValidRoot k v = IsRootValue valid_operations valid_sign (val k.p) (val k.q) (val k.r) (val k.s) v
-
-  pub to_value : (k : RootPoint) (v : ValidNumber) → IsValidRoot k v → IsValue k p v.0
-  to_value k v h = record {
-    number = v.1;
-    root = record { divisor = h.divisor; radicand = h.radicand; root = h.root.0; not-minus = h.not-minus; square = h.square; value = h.value };
-    root-number = h.root.1;
-  }
-
-  pub of_value : (k : RootPoint) (v : ValidNumber) → IsValue k p v.0 → IsValidRoot k v
-  of_value k v h = record {
-    divisor = h.root.divisor;
-    radicand = h.root.radicand;
-    root = (h.root.root, h.root-number);
-    not-minus = h.root.not-minus;
-    square = h.root.square;
-    value = h.root.value;
-  }
-
   -- ---- a divisor that is a negative number is negated
 
   negated_is : (f : Polynomial) → ValidEqual (val (negative f)) (neg (val f))
   negated_is f = value_of_negative f p valid
 
-  pub turned_value : (k : RootPoint) (v : ValidNumber) → IsValidRoot k v → IsValidRoot (turned k) v
+  pub turned_value : (k : RootPoint) (v : ValidNumber) → IsValidRoot p valid k v → IsValidRoot p valid (turned k) v
   turned_value k v h = by (is_negative k.s)
     where
       back : (f : Polynomial) → ValidEqual (neg (val f)) (val (negative f))
       back f = R.back (val (negative f)) (neg (val f)) (negated_is f)
 
-      by : (b : Bool) → IsValidRoot (cond b (record { p = negative k.p; q = negative k.q; r = k.r; s = negative k.s }) k) v
+      by : (b : Bool) → IsValidRoot p valid (cond b (record { p = negative k.p; q = negative k.q; r = k.r; s = negative k.s }) k) v
       by true = value_same numbers (neg (val k.p)) (neg (val k.q)) (val k.r) (neg (val k.s)) v (val (negative k.p)) (val (negative k.q)) (val k.r) (val (negative k.s)) v
           (back k.p) (back k.q) (R.same (val k.r)) (back k.s) (R.same v) (value_turned numbers (val k.p) (val k.q) (val k.r) (val k.s) v h)
       by false = h
 
-  pub of_turned : (k : RootPoint) (v : ValidNumber) → IsValidRoot (turned k) v → IsValidRoot k v
+  pub of_turned : (k : RootPoint) (v : ValidNumber) → IsValidRoot p valid (turned k) v → IsValidRoot p valid k v
   of_turned k v = by (is_negative k.s)
     where
       back : (f : Polynomial) → ValidEqual (neg (val (negative f))) (val f)
       back f = neg_back (val f) (val (negative f)) (negated_is f)
 
-      by : (b : Bool) → IsValidRoot (cond b (record { p = negative k.p; q = negative k.q; r = k.r; s = negative k.s }) k) v → IsValidRoot k v
+      by : (b : Bool) → IsValidRoot p valid (cond b (record { p = negative k.p; q = negative k.q; r = k.r; s = negative k.s }) k) v → IsValidRoot p valid k v
       by true h = value_same numbers (neg (val (negative k.p))) (neg (val (negative k.q))) (val k.r) (neg (val (negative k.s))) v (val k.p) (val k.q) (val k.r) (val k.s) v
           (back k.p) (back k.q) (R.same (val k.r)) (back k.s) (R.same v)
           (value_turned numbers (val (negative k.p)) (val (negative k.q)) (val k.r) (val (negative k.s)) v h)
@@ -179,7 +158,7 @@ module _ (p : Point) (valid : IsPoint p) where
     IsRootAt which v = IsRootOfKind valid_operations valid_sign (kind_of which) A B C v
 
     to_quadratic : (q : ValidNumber) (g : Polynomial) (v : ValidNumber) → ValidEqual q (val g)
-        → IsRootValue valid_operations valid_sign (neg B) q (line.discriminant valid_operations A B C) (mul (of_int valid_operations (pos 2)) A) v → IsValidRoot (quadratic_root x f g) v
+        → IsRootValue valid_operations valid_sign (neg B) q (line.discriminant valid_operations A B C) (mul (of_int valid_operations (pos 2)) A) v → IsValidRoot p valid (quadratic_root x f g) v
     to_quadratic q g v same h = value_same numbers (neg B) q (line.discriminant valid_operations A B C) (mul (of_int valid_operations (pos 2)) A) v
         (val (negative (coefficient_in x 1 f))) (val g) (val (discriminant x f)) (val (scaled (pos 2) (coefficient_in x 2 f))) v
         (R.back (val (negative (coefficient_in x 1 f))) (neg B) (negated_is (coefficient_in x 1 f))) same
@@ -187,14 +166,14 @@ module _ (p : Point) (valid : IsPoint p) where
         (R.back (val (scaled (pos 2) (coefficient_in x 2 f))) (mul (of_int valid_operations (pos 2)) A) (double_is (coefficient_in x 2 f))) (R.same v) h
 
     of_quadratic : (q : ValidNumber) (g : Polynomial) (v : ValidNumber) → ValidEqual (val g) q
-        → IsValidRoot (quadratic_root x f g) v → IsRootValue valid_operations valid_sign (neg B) q (line.discriminant valid_operations A B C) (mul (of_int valid_operations (pos 2)) A) v
+        → IsValidRoot p valid (quadratic_root x f g) v → IsRootValue valid_operations valid_sign (neg B) q (line.discriminant valid_operations A B C) (mul (of_int valid_operations (pos 2)) A) v
     of_quadratic q g v same h = value_same numbers
         (val (negative (coefficient_in x 1 f))) (val g) (val (discriminant x f)) (val (scaled (pos 2) (coefficient_in x 2 f))) v
         (neg B) q (line.discriminant valid_operations A B C) (mul (of_int valid_operations (pos 2)) A) v
         (negated_is (coefficient_in x 1 f)) same (discriminant_is (coefficient_in x 2 f) (coefficient_in x 1 f) (coefficient_in x 0 f)) (double_is (coefficient_in x 2 f)) (R.same v) h
 
     -- so it is a value of the candidate's root
-    pub to_root : (which : Which) (v : ValidNumber) → IsRootAt which v → IsValidRoot (root_of_kind x f which) v
+    pub to_root : (which : Which) (v : ValidNumber) → IsRootAt which v → IsValidRoot p valid (root_of_kind x f which) v
     to_root Linear v h = value_same numbers (neg C) zero zero B v (val (negative (coefficient_in x 0 f))) (val []) (val []) B v
         (R.back (val (negative (coefficient_in x 0 f))) (neg C) (negated_is (coefficient_in x 0 f))) refl refl (R.same B) (R.same v) h.1
     to_root Upper v h = to_quadratic one (constant (pos 1)) v refl h
@@ -207,7 +186,7 @@ module _ (p : Point) (valid : IsPoint p) where
     IsFlat Lower = Unit {0}
 
     -- and the other way
-    pub of_root : (which : Which) (v : ValidNumber) → IsFlat which → IsValidRoot (root_of_kind x f which) v → IsRootAt which v
+    pub of_root : (which : Which) (v : ValidNumber) → IsFlat which → IsValidRoot p valid (root_of_kind x f which) v → IsRootAt which v
     of_root Linear v flat h = (
       flat,
       value_same numbers (val (negative (coefficient_in x 0 f))) (val []) (val []) B v (neg C) zero zero B v

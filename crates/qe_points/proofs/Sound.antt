@@ -36,7 +36,8 @@ use Rattle.qe_points.specs.declared.guard.RootWithGuard.{RootWithGuard}
 use Rattle.qe_points.specs.Guard.{discriminant, root_guard, turned, quadratic_root, root_of_kind, at_or_above}
 use Rattle.qe_points.specs.Guarded.{Fits, HasRoot, IsMade, IsGuardedBy, IsThere, IsSound}
 use Rattle.qe_poly.proofs.Occurring.{occurs_coefficient, occurs_negative, occurs_scaled, occurs_difference, occurs_product}
-use Rattle.qe_points.proofs.Roots.{to_value, of_value, turned_value, of_turned, to_root, of_root, guard_flat, root_exists, zero_there}
+use Rattle.qe_root.proofs.RootValue.{to_value, of_value}
+use Rattle.qe_points.proofs.Roots.{turned_value, of_turned, to_root, of_root, guard_flat, root_exists, zero_there}
 
 -- ---- which variables occur
 
