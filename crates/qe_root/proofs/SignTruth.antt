@@ -3,7 +3,6 @@ use Rattle.std.proofs.Common.{Option, Result, Ok, Err, IfOk, ◌≡◌, ◌↔�
 use Rattle.qe_ring.specs.Ring.{difference}
 use Rattle.qe_ring.specs.Expression.{var, nought, ◌⊕◌, ⊖◌, ◌⊗◌, ◌⊝◌}
 use Rattle.qe_ring.specs.Sign.{Sign, IsNotMinus, opposite, ◌·◌, adds, pick}
-use Rattle.qe_ring.proofs.Bools.{both_hold, one_fails, one_holds, neither, both_fail}
 use Rattle.qe_ring.proofs.Signs.{same_sign, law}
 use Rattle.qe_ring.proofs.Roots.{sign_at_root, root_has_sign}
 use Rattle.qe_tower.specs.Number.{Number, sign_of, add, mul, ValidNumber}
@@ -25,6 +24,7 @@ use Rattle.qe_root.specs.Shape.{Shape, atom, conjunction, disjunction, formula, 
 use Rattle.qe_form.specs.Signs.{IsProper}
 use Rattle.qe_root.specs.SignForm.{sign_shape, side_shape, zero_shape, norm, sign_formula, IsSquareRoot, IsSignForm}
 use Rattle.qe_root.proofs.Values.{polynomial_operations, valid_value, value_means}
+use Rattle.qe_root.proofs.TestFormulas.{Reads, rereads, reads_atom, reads_both, reads_either}
 use Rattle.qe_root.proofs.SignTable.{table}
 
 -- ---- truth of a formula by the signs at its atoms
@@ -35,19 +35,6 @@ mapped f (atom x signs) = atom (f x) signs
 mapped f (conjunction s t) = conjunction (mapped f s) (mapped f t)
 mapped f (disjunction s t) = disjunction (mapped f s) (mapped f t)
 
-and_true : (a b : Bool) → a ≡ true → b ≡ true → (a && b) ≡ true
-and_true a b left right = ap₂ ◌&&◌ left right
-
-and_false : (a b : Bool) → a ≡ false ⊎ b ≡ false → (a && b) ≡ false
-and_false true b (inl left) = absurd (subst T left tt)
-and_false true b (inr right) = right
-and_false false b some = refl
-
-or_true : (a b : Bool) → a ≡ true ⊎ b ≡ true → (a || b) ≡ true
-or_true true b some = refl
-or_true false b (inl left) = absurd (subst T (sym left) tt)
-or_true false b (inr right) = right
-
 module _ (at : Point) where
   abbrev pub sign_at : Polynomial → Sign
   sign_at p = sign_of (value p at)
@@ -55,22 +42,13 @@ module _ (at : Point) where
   abbrev holds : Shape Polynomial → Bool
   holds s = is_met (mapped sign_at s)
 
-  is_so : (s : Shape Polynomial) (t : Bool) → Is (formula s) t at → holds s ≡ t
-  is_so (atom p signs) t truth = truth
-  is_so (conjunction s u) true truth = and_true (holds s) (holds u) (is_so s true truth.0) (is_so u true truth.1.0)
-  is_so (conjunction s u) false truth = and_false (holds s) (holds u) (elim truth [ inl x ↦ inl (is_so s false x) | inr y ↦ inr (elim y [ inl z ↦ is_so u false z | inr z ↦ absurd z ]) ])
-  is_so (disjunction s u) true truth = or_true (holds s) (holds u) (elim truth [ inl x ↦ inl (is_so s true x) | inr y ↦ inr (elim y [ inl z ↦ is_so u true z | inr z ↦ absurd z ]) ])
-  is_so (disjunction s u) false truth = both_fail (holds s) (holds u) (is_so s false truth.0) (is_so u false truth.1.0)
+  shape_reads : (s : Shape Polynomial) → Reads at (holds s) (formula s)
+  shape_reads (atom p signs) = reads_atom at p signs (sign_at p) refl
+  shape_reads (conjunction s u) = reads_both at (holds s) (holds u) (formula s) (formula u) (shape_reads s) (shape_reads u)
+  shape_reads (disjunction s u) = reads_either at (holds s) (holds u) (formula s) (formula u) (shape_reads s) (shape_reads u)
 
-  so_is : (s : Shape Polynomial) (t : Bool) → holds s ≡ t → Is (formula s) t at
-  so_is (atom p signs) t truth = truth
-  so_is (conjunction s u) true truth = let parts = both_hold (holds s) (holds u) truth in (so_is s true parts.0, (so_is u true parts.1, tt))
-  so_is (conjunction s u) false truth = elim (one_fails (holds s) (holds u) truth) [ inl x ↦ inl (so_is s false x) | inr y ↦ inr (inl (so_is u false y)) ]
-  so_is (disjunction s u) true truth = elim (one_holds (holds s) (holds u) truth) [ inl x ↦ inl (so_is s true x) | inr y ↦ inr (inl (so_is u true y)) ]
-  so_is (disjunction s u) false truth = let parts = neither (holds s) (holds u) truth in (so_is s false parts.0, (so_is u false parts.1, tt))
-
-  pub truth_of : (s : Shape Polynomial) (x : Bool) → holds s ≡ x → (t : Bool) → Is (formula s) t at ↔ (x ≡ t)
-  truth_of s x same t = ((λ truth. sym same ∙ is_so s t truth), (λ equal. so_is s t (same ∙ equal)))
+  pub truth_of : (s : Shape Polynomial) (x : Bool) → holds s ≡ x → Reads at x (formula s)
+  truth_of s x same = rereads at (holds s) x (formula s) same (shape_reads s)
 
 -- what stands at the atoms may be changed before or after the shape is made
 side_shape-mapped : {X Y : Type 0} (f : X → Y) (zero : Bool) (a b n : X) → mapped f (side_shape zero a b n) ≡ side_shape zero (f a) (f b) (f n)

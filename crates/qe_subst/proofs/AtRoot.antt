@@ -19,7 +19,7 @@ use Rattle.qe_root.proofs.RootValue.{parts_are}
 use Rattle.qe_root.proofs.SignTruth.{form_is}
 use Rattle.qe_root.proofs.RootLaws.{sign_at_root}
 use Rattle.qe_subst.specs.Substituted.{is_own, at_root}
-use Rattle.qe_subst.proofs.TestFormulas.{Reads, rereads, reads_constant}
+use Rattle.qe_root.proofs.TestFormulas.{Reads, rereads, reads_constant}
 
 module _ (x : ℕ) (p : Point) (valid : IsPoint p) (k : RootPoint) (v : ValidNumber) (root : IsValue k p v.0) where
   -- the root's own polynomial is zero there

@@ -15,7 +15,7 @@ use Rattle.qe_form.specs.Formula.{And, Or, no_more, more}
 use Rattle.qe_form.specs.Truth.{has_sign}
 use Rattle.qe_subst.specs.Substituted.{each_coefficient, everywhere, line_below, constant_below, quadratic_below, at_minus_infinity}
 use Rattle.qe_subst.proofs.SignTests.{line_test, quadratic_test, each_zero, some_not_zero, zero_below}
-use Rattle.qe_subst.proofs.TestFormulas.{Reads, rereads, reads_sign, and_more, or_more, reads_both, reads_either}
+use Rattle.qe_root.proofs.TestFormulas.{Reads, rereads, reads_atom, and_more, or_more, reads_both, reads_either}
 use Rattle.qe_root.proofs.OnLine.{coefficient, no_coefficient}
 use Rattle.qe_subst.proofs.OnLine.{sign_at_place}
 
@@ -37,7 +37,7 @@ module _ (x : ℕ) (p : Point) (valid : IsPoint p) (f : Polynomial) where
   sign i = valid_sign (coefficient x p valid i f)
 
   coefficient_reads : (i : ℕ) (s : Signs) → Reads p (has_sign s (sign i)) (atomic (coefficient_in x i f) s)
-  coefficient_reads i s = reads_sign p (coefficient_in x i f) s (sign i) refl
+  coefficient_reads i s = reads_atom p (coefficient_in x i f) s (sign i) refl
 
   -- ---- by the coefficients, whichever sign t it is that is zero only where they all are
 
@@ -49,26 +49,26 @@ module _ (x : ℕ) (p : Point) (valid : IsPoint p) (f : Polynomial) where
     each_is_zero : (n : ℕ) → degree_in x f ≡ n → 0 < n → n ≤ 2 → Reads p (has_sign equal t) (And (each_coefficient x n f equal))
     each_is_zero zero degree positive low = absurd (omega arith)
     each_is_zero (suc zero) degree positive low =
-        rereads p (has_sign equal (sign 1) && (has_sign equal (sign 0) && true)) (has_sign equal t) (And (each_coefficient x 1 f equal))
+        rereads p (has_sign equal (sign 1) && has_sign equal (sign 0)) (has_sign equal t) (And (each_coefficient x 1 f equal))
         (each_zero t Zero (sign 1) (sign 0) (flat (no_coefficient x p valid 2 f (omega (arith, degree)))))
         (reads_both p (has_sign equal (sign 1)) (has_sign equal (sign 0)) (atomic (coefficient_in x 1 f) equal) (atomic (coefficient_in x 0 f) equal) (coefficient_reads 1 equal) (coefficient_reads 0 equal))
     each_is_zero (suc (suc zero)) degree positive low =
-        rereads p (has_sign equal (sign 2) && (has_sign equal (sign 1) && (has_sign equal (sign 0) && true))) (has_sign equal t) (And (each_coefficient x 2 f equal))
+        rereads p (has_sign equal (sign 2) && (has_sign equal (sign 1) && has_sign equal (sign 0))) (has_sign equal t) (And (each_coefficient x 2 f equal))
         (each_zero t (sign 2) (sign 1) (sign 0) same)
-        (and_more p (has_sign equal (sign 2)) (has_sign equal (sign 1) && (has_sign equal (sign 0) && true)) (atomic (coefficient_in x 2 f) equal) (each_coefficient x 1 f equal) (coefficient_reads 2 equal)
+        (and_more p (has_sign equal (sign 2)) (has_sign equal (sign 1) && has_sign equal (sign 0)) (atomic (coefficient_in x 2 f) equal) (each_coefficient x 1 f equal) (coefficient_reads 2 equal)
         (reads_both p (has_sign equal (sign 1)) (has_sign equal (sign 0)) (atomic (coefficient_in x 1 f) equal) (atomic (coefficient_in x 0 f) equal) (coefficient_reads 1 equal) (coefficient_reads 0 equal)))
     each_is_zero (suc (suc (suc n))) degree positive low = absurd (omega arith)
 
     some_is_not : (n : ℕ) → degree_in x f ≡ n → 0 < n → n ≤ 2 → Reads p (has_sign not_equal t) (Or (each_coefficient x n f not_equal))
     some_is_not zero degree positive low = absurd (omega arith)
     some_is_not (suc zero) degree positive low =
-        rereads p (has_sign not_equal (sign 1) || (has_sign not_equal (sign 0) || false)) (has_sign not_equal t) (Or (each_coefficient x 1 f not_equal))
+        rereads p (has_sign not_equal (sign 1) || has_sign not_equal (sign 0)) (has_sign not_equal t) (Or (each_coefficient x 1 f not_equal))
         (some_not_zero t Zero (sign 1) (sign 0) (flat (no_coefficient x p valid 2 f (omega (arith, degree)))))
         (reads_either p (has_sign not_equal (sign 1)) (has_sign not_equal (sign 0)) (atomic (coefficient_in x 1 f) not_equal) (atomic (coefficient_in x 0 f) not_equal) (coefficient_reads 1 not_equal) (coefficient_reads 0 not_equal))
     some_is_not (suc (suc zero)) degree positive low =
-        rereads p (has_sign not_equal (sign 2) || (has_sign not_equal (sign 1) || (has_sign not_equal (sign 0) || false))) (has_sign not_equal t) (Or (each_coefficient x 2 f not_equal))
+        rereads p (has_sign not_equal (sign 2) || (has_sign not_equal (sign 1) || has_sign not_equal (sign 0))) (has_sign not_equal t) (Or (each_coefficient x 2 f not_equal))
         (some_not_zero t (sign 2) (sign 1) (sign 0) same)
-        (or_more p (has_sign not_equal (sign 2)) (has_sign not_equal (sign 1) || (has_sign not_equal (sign 0) || false)) (atomic (coefficient_in x 2 f) not_equal) (each_coefficient x 1 f not_equal) (coefficient_reads 2 not_equal)
+        (or_more p (has_sign not_equal (sign 2)) (has_sign not_equal (sign 1) || has_sign not_equal (sign 0)) (atomic (coefficient_in x 2 f) not_equal) (each_coefficient x 1 f not_equal) (coefficient_reads 2 not_equal)
         (reads_either p (has_sign not_equal (sign 1)) (has_sign not_equal (sign 0)) (atomic (coefficient_in x 1 f) not_equal) (atomic (coefficient_in x 0 f) not_equal) (coefficient_reads 1 not_equal) (coefficient_reads 0 not_equal)))
     some_is_not (suc (suc (suc n))) degree positive low = absurd (omega arith)
 
@@ -80,23 +80,23 @@ module _ (x : ℕ) (p : Point) (valid : IsPoint p) (f : Polynomial) where
 
   line_reads : (s : Signs) → sign 2 ≡ Zero → Reads p (has_sign s (sign_at_place x p valid line.below f)) (line_below x f s)
   line_reads s none =
-      rereads p (has_sign (mirror (strict s)) (sign 1) || ((has_sign equal (sign 1) && (has_sign s (sign 0) && true)) || false)) (has_sign s (sign_at_place x p valid line.below f)) (line_below x f s)
+      rereads p (has_sign (mirror (strict s)) (sign 1) || (has_sign equal (sign 1) && has_sign s (sign 0))) (has_sign s (sign_at_place x p valid line.below f)) (line_below x f s)
       (line_test s (sign 1) (sign 0) ∙ ap (λ y. has_sign s (first_sign y (first_sign (opposite (sign 1)) (sign 0)))) (sym none))
-      (reads_either p (has_sign (mirror (strict s)) (sign 1)) (has_sign equal (sign 1) && (has_sign s (sign 0) && true))
+      (reads_either p (has_sign (mirror (strict s)) (sign 1)) (has_sign equal (sign 1) && has_sign s (sign 0))
       (atomic (coefficient_in x 1 f) (mirror (strict s))) (both (atomic (coefficient_in x 1 f) equal) (atomic (coefficient_in x 0 f) s)) (coefficient_reads 1 (mirror (strict s)))
       (reads_both p (has_sign equal (sign 1)) (has_sign s (sign 0)) (atomic (coefficient_in x 1 f) equal) (atomic (coefficient_in x 0 f) s) (coefficient_reads 1 equal) (coefficient_reads 0 s)))
 
   quadratic_reads : (s : Signs) → Reads p (has_sign s (sign_at_place x p valid line.below f)) (quadratic_below x f s)
   quadratic_reads s =
       rereads p
-      (has_sign (strict s) (sign 2) || ((has_sign equal (sign 2) && (has_sign (mirror (strict s)) (sign 1) && true)) || ((has_sign equal (sign 2) && (has_sign equal (sign 1) && (has_sign s (sign 0) && true))) || false)))
+      (has_sign (strict s) (sign 2) || ((has_sign equal (sign 2) && has_sign (mirror (strict s)) (sign 1)) || (has_sign equal (sign 2) && (has_sign equal (sign 1) && has_sign s (sign 0)))))
       (has_sign s (sign_at_place x p valid line.below f)) (quadratic_below x f s) (quadratic_test s (sign 2) (sign 1) (sign 0))
-      (or_more p (has_sign (strict s) (sign 2)) ((has_sign equal (sign 2) && (has_sign (mirror (strict s)) (sign 1) && true)) || ((has_sign equal (sign 2) && (has_sign equal (sign 1) && (has_sign s (sign 0) && true))) || false))
+      (or_more p (has_sign (strict s) (sign 2)) ((has_sign equal (sign 2) && has_sign (mirror (strict s)) (sign 1)) || (has_sign equal (sign 2) && (has_sign equal (sign 1) && has_sign s (sign 0))))
       (atomic (coefficient_in x 2 f) (strict s)) (more (both (atomic (coefficient_in x 2 f) equal) (atomic (coefficient_in x 1 f) (mirror (strict s)))) (more (constant_below x f s) no_more)) (coefficient_reads 2 (strict s))
-      (reads_either p (has_sign equal (sign 2) && (has_sign (mirror (strict s)) (sign 1) && true)) (has_sign equal (sign 2) && (has_sign equal (sign 1) && (has_sign s (sign 0) && true)))
+      (reads_either p (has_sign equal (sign 2) && has_sign (mirror (strict s)) (sign 1)) (has_sign equal (sign 2) && (has_sign equal (sign 1) && has_sign s (sign 0)))
       (both (atomic (coefficient_in x 2 f) equal) (atomic (coefficient_in x 1 f) (mirror (strict s)))) (constant_below x f s)
       (reads_both p (has_sign equal (sign 2)) (has_sign (mirror (strict s)) (sign 1)) (atomic (coefficient_in x 2 f) equal) (atomic (coefficient_in x 1 f) (mirror (strict s))) (coefficient_reads 2 equal) (coefficient_reads 1 (mirror (strict s))))
-      (and_more p (has_sign equal (sign 2)) (has_sign equal (sign 1) && (has_sign s (sign 0) && true)) (atomic (coefficient_in x 2 f) equal) (more (atomic (coefficient_in x 1 f) equal) (more (atomic (coefficient_in x 0 f) s) no_more)) (coefficient_reads 2 equal)
+      (and_more p (has_sign equal (sign 2)) (has_sign equal (sign 1) && has_sign s (sign 0)) (atomic (coefficient_in x 2 f) equal) (more (atomic (coefficient_in x 1 f) equal) (more (atomic (coefficient_in x 0 f) s) no_more)) (coefficient_reads 2 equal)
       (reads_both p (has_sign equal (sign 1)) (has_sign s (sign 0)) (atomic (coefficient_in x 1 f) equal) (atomic (coefficient_in x 0 f) s) (coefficient_reads 1 equal) (coefficient_reads 0 s)))))
 
   pub below_reads : (s : Signs) → IsProper s → 0 < degree_in x f → degree_in x f ≤ 2 → Reads p (has_sign s (sign_at_place x p valid line.below f)) (at_minus_infinity x f s)

@@ -31,7 +31,7 @@ use Rattle.qe_subst.specs.Substituted.{at_root, near}
 use Rattle.qe_subst.proofs.Derivatives.{degree_of_derivative, coefficient_of_derivative}
 use Rattle.qe_subst.proofs.ProperSigns.{equal_proper}
 use Rattle.qe_subst.proofs.SignTests.{near_test}
-use Rattle.qe_subst.proofs.TestFormulas.{Reads, rereads, reads_sign, reads_both, reads_either}
+use Rattle.qe_root.proofs.TestFormulas.{Reads, rereads, reads_atom, reads_both, reads_either}
 use Rattle.qe_root.proofs.OnLine.{at_number, coefficient, sign_with, no_coefficient}
 use Rattle.qe_subst.proofs.OnLine.{sign_at_place, sign_stays}
 use Rattle.qe_subst.proofs.AtRoot.{at_root_reads}
@@ -110,16 +110,16 @@ module _ (x : ℕ) (p : Point) (valid : IsPoint p) (v : ValidNumber) where
   module _ (k : RootPoint) (root : IsValue k p v.0) (own : Option Polynomial) (own_zero : OwnIsZero x own p (line.at v)) (s : Signs) (proper : IsProper (strict s)) where
     pub near_reads : (n : ℕ) (f : Polynomial) → IsPolynomial f → degree_in x f ≡ n → n ≤ 2
         → Reads p (has_sign s (sign_at_place x p valid (line.above v) f)) (near x own k n f s)
-    near_reads zero f canonical degree low = reads_sign p f s (sign_at_place x p valid (line.above v) f) (sym (above_free f canonical (omega (arith, degree))))
+    near_reads zero f canonical degree low = reads_atom p f s (sign_at_place x p valid (line.above v) f) (sym (above_free f canonical (omega (arith, degree))))
     near_reads (suc n) f canonical degree low =
         let small : degree_in x f ≤ 2 = omega (arith, degree) in
         let less : degree_in x (derivative x f) ≡ n = (let d = degree_of_derivative x f canonical in omega (arith, d, degree)) in
         let rest = near_reads n (derivative x f) (IsPolynomial-derivative x f canonical) less (omega arith) in
         let here : Sign = sign_of (value f (at_number x p valid v)) in
         let above : Sign = sign_at_place x p valid (line.above v) (derivative x f) in
-        rereads p (has_sign (strict s) here || ((has_sign equal here && (has_sign s above && true)) || false)) (has_sign s (sign_at_place x p valid (line.above v) f))
+        rereads p (has_sign (strict s) here || (has_sign equal here && has_sign s above)) (has_sign s (sign_at_place x p valid (line.above v) f))
         (near x own k (suc n) f s) (near_test s here above ∙ ap (has_sign s) (sym (through_derivative f canonical small)))
-        (reads_either p (has_sign (strict s) here) (has_sign equal here && (has_sign s above && true)) (at_root x own k f (strict s)) (both (at_root x own k f equal) (near x own k n (derivative x f) s))
+        (reads_either p (has_sign (strict s) here) (has_sign equal here && has_sign s above) (at_root x own k f (strict s)) (both (at_root x own k f equal) (near x own k n (derivative x f) s))
         (at_root_reads x p valid k v root own own_zero f canonical small (strict s) proper)
         (reads_both p (has_sign equal here) (has_sign s above) (at_root x own k f equal) (near x own k n (derivative x f) s)
         (at_root_reads x p valid k v root own own_zero f canonical small equal equal_proper) rest))

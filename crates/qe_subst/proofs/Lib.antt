@@ -3,7 +3,6 @@ pub mod ProperSigns
 pub mod Made
 pub mod Sizes
 pub mod Turns
-pub mod TestFormulas
 pub mod SignTests
 pub mod Degrees
 pub mod OnLine

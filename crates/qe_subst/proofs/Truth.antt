@@ -26,7 +26,7 @@ use Rattle.qe_root.specs.Holds.{StandsAt, OwnIsZero, StandsFor}
 use Rattle.qe_root.specs.Atoms.{HasCanonicalAtoms, HaveCanonicalAtoms}
 use Rattle.qe_subst.specs.Substituted.{everywhere, near, at_point, for_atom, substituted, substituted_each}
 use Rattle.qe_subst.proofs.ProperSigns.{strict_proper}
-use Rattle.qe_subst.proofs.TestFormulas.{Reads, rereads, reads_sign}
+use Rattle.qe_root.proofs.TestFormulas.{Reads, rereads, reads_atom}
 use Rattle.qe_root.proofs.OnLine.{at_number, coefficient, sign_with}
 use Rattle.qe_subst.proofs.OnLine.{HoldsThere, sign_at_place, sign_there, sign_stays}
 use Rattle.qe_subst.proofs.AtRoot.{at_root_reads}
@@ -90,7 +90,7 @@ module _ (x : ℕ) (p : Point) (valid : IsPoint p) (own : Option Polynomial) whe
         elim (eqb (degree_in x a.poly) 0) as (λ b. eqb (degree_in x a.poly) 0 ≡ b → Stands (Atom a) (cond b (Atom a) (at_point x point own a.poly a.signs))) [
           | true ↦ λ none. let free : degree_in x a.poly < 1 = (let d = eqb-true (degree_in x a.poly) 0 none in omega (arith, d)) in
               atom_stands a (sign_of (value a.poly p)) (Atom a) (here numbers k (λ u. sign_with x p valid a.poly canonical low u ∙ sign_stays x p valid a.poly canonical free u))
-              (reads_sign p a.poly a.signs (sign_of (value a.poly p)) refl)
+              (reads_atom p a.poly a.signs (sign_of (value a.poly p)) refl)
           | false ↦ λ some. atom_stands a (sign_at_place x p valid k a.poly) (at_point x point own a.poly a.signs) (sign_there x p valid a.poly canonical low k)
               (point_reads a.poly canonical (positive (degree_in x a.poly) some) low a.signs proper point k stands zero)
         ] refl

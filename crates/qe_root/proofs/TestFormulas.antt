@@ -30,6 +30,14 @@ or_right : (a b : Bool) → b ≡ true → (a || b) ≡ true
 or_right true b e = refl
 or_right false b e = e
 
+and_last : (b : Bool) → (b && true) ≡ b
+and_last true = refl
+and_last false = refl
+
+pub or_last : (b : Bool) → (b || false) ≡ b
+or_last true = refl
+or_last false = refl
+
 module _ (p : Point) where
   -- the formula is true where the test holds, and false where it does not
   abbrev pub Reads : Bool → Formula → Type 0
@@ -42,10 +50,10 @@ module _ (p : Point) where
   reads_constant true t = ((λ h. sym h), (λ h. sym h))
   reads_constant false t = ((λ h. sym h), (λ h. sym h))
 
-  pub reads_sign : (q : Polynomial) (s : Signs) (sign : Sign) → sign_of (value q p) ≡ sign → Reads (has_sign s sign) (atomic q s)
-  reads_sign q s sign e t = ((λ h. sym (ap (has_sign s) e) ∙ h), (λ h. ap (has_sign s) e ∙ h))
+  pub reads_atom : (q : Polynomial) (s : Signs) (sign : Sign) → sign_of (value q p) ≡ sign → Reads (has_sign s sign) (atomic q s)
+  reads_atom q s sign e t = ((λ h. sym (ap (has_sign s) e) ∙ h), (λ h. ap (has_sign s) e ∙ h))
 
-  pub and_none : Reads true (And no_more)
+  and_none : Reads true (And no_more)
   and_none true = ((λ h. refl), (λ h. tt))
   and_none false = ((λ h. absurd h), (λ h. absurd (cc)))
 
@@ -59,7 +67,7 @@ module _ (p : Point) where
     (λ e. elim (one_fails a b e) [ inl l ↦ inl ((h false).1 l) | inr r ↦ inr ((k false).1 r) ]),
   )
 
-  pub or_none : Reads false (Or no_more)
+  or_none : Reads false (Or no_more)
   or_none true = ((λ h. absurd h), (λ h. absurd (cc)))
   or_none false = ((λ h. refl), (λ h. tt))
 
@@ -73,8 +81,8 @@ module _ (p : Point) where
     (λ e. let parts = neither a b e in ((h false).1 parts.0, (k false).1 parts.1)),
   )
 
-  pub reads_both : (a b : Bool) (f g : Formula) → Reads a f → Reads b g → Reads (a && (b && true)) (both f g)
-  reads_both a b f g h k = and_more a (b && true) f (more g no_more) h (and_more b true g no_more k and_none)
+  pub reads_both : (a b : Bool) (f g : Formula) → Reads a f → Reads b g → Reads (a && b) (both f g)
+  reads_both a b f g h k = and_more a b f (more g no_more) h (rereads (b && true) b (And (more g no_more)) (and_last b) (and_more b true g no_more k and_none))
 
-  pub reads_either : (a b : Bool) (f g : Formula) → Reads a f → Reads b g → Reads (a || (b || false)) (either f g)
-  reads_either a b f g h k = or_more a (b || false) f (more g no_more) h (or_more b false g no_more k or_none)
+  pub reads_either : (a b : Bool) (f g : Formula) → Reads a f → Reads b g → Reads (a || b) (either f g)
+  reads_either a b f g h k = or_more a b f (more g no_more) h (rereads (b || false) b (Or (more g no_more)) (or_last b) (or_more b false g no_more k or_none))
