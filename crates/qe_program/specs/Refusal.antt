@@ -59,7 +59,7 @@ pub data Refusal : Type 0 where
   node : List Letters → ℕ → List Step → NodeStop → Refusal
   too_many_nodes : ℕ → ℕ → Refusal
 
--- want of memory is no reason
+-- out of memory is no reason
 abbrev pub IsReason : Refusal → Type 0
 IsReason (fault f) = f ≢ read.OutOfMemory
 IsReason _ = Unit {0}
