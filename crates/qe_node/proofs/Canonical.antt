@@ -23,6 +23,7 @@ use Rattle.qe_poly.specs.Numbers.{is_zero, is_negative}
 use Rattle.qe_root.specs.Value.{triple, square, plain_part, root_part, plain_part_of, root_part_of}
 use Rattle.qe_root.specs.Shape.{Shape, conjunction, disjunction, formula}
 use Rattle.qe_root.specs.Shape as shape
+use Rattle.qe_root.proofs.Shapes.{EachOf, shape_each}
 use Rattle.qe_root.specs.SignForm.{sign_shape, norm, sign_formula}
 use Rattle.qe_points.specs.declared.candidate.Which.{Which}
 use Rattle.qe_points.specs.declared.candidate.Which.TheVariants.{Linear, Upper, Lower}
@@ -71,27 +72,10 @@ module _ (k : RootPoint) (h : IsRoot k) where
 
 -- ---- shapes of formulas
 
--- P holds of each X of a shape
-abbrev EachOf : {X : Type 0} → (X → Type 0) → Shape X → Type 0
-EachOf P (shape.atom a signs) = P a
-EachOf P (conjunction f g) = EachOf P f × EachOf P g
-EachOf P (disjunction f g) = EachOf P f × EachOf P g
-
 formula_fine : (f : Shape Polynomial) → EachOf IsPolynomial f → IsFine (formula f)
 formula_fine (shape.atom a signs) h = h
 formula_fine (conjunction f g) h = (formula_fine f h.0, (formula_fine g h.1, tt))
 formula_fine (disjunction f g) h = (formula_fine f h.0, (formula_fine g h.1, tt))
-
-module _ {X : Type 0} (P : X → Type 0) (opposite : X → X) (a b e n : X) (ha : P a) (hb : P b) (he : P e) (hn : P n) (ta : P (opposite a)) (tb : P (opposite b)) where
-  shape_each : (minus zero plus : Bool) → EachOf P (sign_shape opposite (record { minus = minus; zero = zero; plus = plus }) a b e n)
-  shape_each true true true = (he, hn)
-  shape_each true false true = (he, hn)
-  shape_each true true false = ((ha, hn), (hb, hn))
-  shape_each true false false = ((ha, hn), (hb, (ha, hn)))
-  shape_each false true true = ((ta, hn), (tb, hn))
-  shape_each false false true = ((ta, hn), (tb, (ta, hn)))
-  shape_each false true false = (he, hn)
-  shape_each false false false = (he, hn)
 
 norm_fine : (a b r : Polynomial) → IsPolynomial a → IsPolynomial b → IsPolynomial r → IsPolynomial (norm a b r)
 norm_fine a b r ha hb hr = IsPolynomial-difference (product a a) (triple b b r) (IsPolynomial-product a a ha ha) (IsPolynomial-triple b b r hb hb hr)
@@ -103,7 +87,7 @@ sign_formula_fine a b r signs ha hb hr = by_zero (is_zero b)
     by_zero true = ha
     by_zero false =
         formula_fine (sign_shape negative signs a b (product a b) (norm a b r))
-        (shape_each IsPolynomial negative a b (product a b) (norm a b r) ha hb (IsPolynomial-product a b ha hb) (norm_fine a b r ha hb hr) (IsPolynomial-negative a ha) (IsPolynomial-negative b hb) signs.minus signs.zero signs.plus)
+        (shape_each IsPolynomial negative a b (product a b) (norm a b r) ha hb (IsPolynomial-product a b ha hb) (norm_fine a b r ha hb hr) (IsPolynomial-negative a ha) (IsPolynomial-negative b hb) signs)
 
 -- ---- a formula at a point
 

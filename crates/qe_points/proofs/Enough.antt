@@ -106,25 +106,19 @@ in_cond : {X : Type 0} (c : X) (b : Bool) (xs ys : List X) → (b ≡ true → I
 in_cond c true xs ys h k = h refl
 in_cond c false xs ys h k = k refl
 
+not_one : (n : ℕ) → n ≡ 2 → eqb n 1 ≡ true → ⊥
+not_one n e t = grind (arith, nat_tests)
+
+not_two : (n : ℕ) → n ≡ 2 → eqb n 2 ≡ false → ⊥
+not_two n e t = grind (arith, nat_tests)
+
 in_roots_of : (x : ℕ) (plus : Bool) (g : Numbered) (which : Which) → Fits x g.0 which → IsIn (Root g.0 g.1 which plus) (roots_of x plus g)
 in_roots_of x plus g Linear fits = in_cond _ (eqb (degree_in x g.0) 1) _ _ (λ t. inl refl) (λ t. in_cond _ (eqb (degree_in x g.0) 2) _ _ (λ u. inl refl) (λ u. absurd (neither (degree_in x g.0) fits.0 fits.1 t u)))
   where
     neither : (n : ℕ) → 0 < n → n ≤ 2 → eqb n 1 ≡ false → eqb n 2 ≡ false → ⊥
     neither n less low t u = grind (arith, nat_tests)
-in_roots_of x plus g Upper fits = in_cond _ (eqb (degree_in x g.0) 1) _ _ (λ t. absurd (not_one (degree_in x g.0) fits t)) (λ t. in_cond _ (eqb (degree_in x g.0) 2) _ _ (λ u. inr (inl refl)) (λ u. absurd (is_two (degree_in x g.0) fits u)))
-  where
-    not_one : (n : ℕ) → n ≡ 2 → eqb n 1 ≡ true → ⊥
-    not_one n e t = grind (arith, nat_tests)
-
-    is_two : (n : ℕ) → n ≡ 2 → eqb n 2 ≡ false → ⊥
-    is_two n e t = grind (arith, nat_tests)
-in_roots_of x plus g Lower fits = in_cond _ (eqb (degree_in x g.0) 1) _ _ (λ t. absurd (not_one (degree_in x g.0) fits t)) (λ t. in_cond _ (eqb (degree_in x g.0) 2) _ _ (λ u. inr (inr (inl refl))) (λ u. absurd (is_two (degree_in x g.0) fits u)))
-  where
-    not_one : (n : ℕ) → n ≡ 2 → eqb n 1 ≡ true → ⊥
-    not_one n e t = grind (arith, nat_tests)
-
-    is_two : (n : ℕ) → n ≡ 2 → eqb n 2 ≡ false → ⊥
-    is_two n e t = grind (arith, nat_tests)
+in_roots_of x plus g Upper fits = in_cond _ (eqb (degree_in x g.0) 1) _ _ (λ t. absurd (not_one (degree_in x g.0) fits t)) (λ t. in_cond _ (eqb (degree_in x g.0) 2) _ _ (λ u. inr (inl refl)) (λ u. absurd (not_two (degree_in x g.0) fits u)))
+in_roots_of x plus g Lower fits = in_cond _ (eqb (degree_in x g.0) 1) _ _ (λ t. absurd (not_one (degree_in x g.0) fits t)) (λ t. in_cond _ (eqb (degree_in x g.0) 2) _ _ (λ u. inr (inr (inl refl))) (λ u. absurd (not_two (degree_in x g.0) fits u)))
 
 of_roots_of : (x : ℕ) (plus : Bool) (g : Numbered) (c : Candidate) → IsIn c (roots_of x plus g) → (which : Which) × (c ≡ Root g.0 g.1 which plus) × Fits x g.0 which
 of_roots_of x plus g c i = one (eqb (degree_in x g.0) 1) refl (eqb (degree_in x g.0) 2) refl i

@@ -1,6 +1,7 @@
 pub mod Values
 pub mod OnLine
 pub mod RootValue
+pub mod Shapes
 pub mod TestFormulas
 mod SignTable
 pub mod SignTruth

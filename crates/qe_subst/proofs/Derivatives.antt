@@ -5,6 +5,7 @@ use Rattle.std.proofs.lemmas.Int.{unsigned_abs-mul}
 use Rattle.std.proofs.lemmas.Bool.{eqb-true}
 use Rattle.std.proofs.lemmas.Bool.Decides.{nat_tests, Decides-int_eq}
 use Rattle.std.specs.Ordering.{int_eq}
+use Rattle.qe_ring.proofs.Bools.{fails}
 use Rattle.qe_poly.specs.Monomial.{Monomial, IsMonomial, IsAbove}
 use Rattle.qe_poly.specs.Polynomial.{Polynomial, IsPolynomial}
 use Rattle.qe_poly.specs.Coefficients.{exponent_of, without, degree_in, coefficient_in, lowered, derivative}
@@ -60,7 +61,7 @@ not_none e = grind (arith, nat_tests)
 -- whether the coefficient times the exponent is zero
 is_gone : (c : ℤ) → c ≢ pos 0 → (e : ℕ) → int_eq (c *ℤ pos e) (pos 0) ≡ eqb e 0
 is_gone c other zero = ap (λ d. int_eq d (pos 0)) (*ℤ-zero c)
-is_gone c other (suc e) = not_tested (c *ℤ pos (suc e)) (λ gone. product_positive (unsigned_abs c) (suc e) (positive c other) (omega arith) (sym (unsigned_abs-mul c (pos (suc e))) ∙ ap unsigned_abs gone)) ∙ sym (not_none e)
+is_gone c other (suc e) = fails (int_eq (c *ℤ pos (suc e)) (pos 0)) (Decides-int_eq (c *ℤ pos (suc e)) (pos 0)) (λ gone. product_positive (unsigned_abs c) (suc e) (positive c other) (omega arith) (sym (unsigned_abs-mul c (pos (suc e))) ∙ ap unsigned_abs gone)) ∙ sym (not_none e)
   where
     positive : (d : ℤ) → d ≢ pos 0 → 0 < unsigned_abs d
     positive (pos zero) other = absurd (other refl)
@@ -70,12 +71,6 @@ is_gone c other (suc e) = not_tested (c *ℤ pos (suc e)) (λ gone. product_posi
     product_positive : (m n : ℕ) → 0 < m → 0 < n → m * n ≡ 0 → ⊥
     product_positive zero n left right none = omega arith
     product_positive (suc m) n left right none = omega arith
-
-    not_tested : (d : ℤ) → d ≢ pos 0 → int_eq d (pos 0) ≡ false
-    not_tested d other = elim (int_eq d (pos 0)) as (λ b. int_eq d (pos 0) ≡ b → b ≡ false) [
-      | true ↦ λ test. absurd (other ((Decides-int_eq d (pos 0)).0 test))
-      | false ↦ λ test. refl
-    ] refl
 
 -- ---- the degree
 

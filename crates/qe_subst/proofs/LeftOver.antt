@@ -19,7 +19,8 @@ use Rattle.qe_root.specs.declared.point.Point.TheVariants.{Root, RootPlus, Minus
 use Rattle.qe_poly.specs.Numbers.{is_zero}
 use Rattle.qe_root.specs.Value.{triple, square, plain_part_of, root_part_of}
 use Rattle.qe_root.specs.Shape.{formula}
-use Rattle.qe_root.specs.SignForm.{zero_shape, side_shape, sign_shape, sign_formula, norm}
+use Rattle.qe_root.proofs.Shapes.{shape_each, free_in_shape}
+use Rattle.qe_root.specs.SignForm.{sign_shape, sign_formula, norm}
 use Rattle.qe_root.specs.Atoms.{HasCanonicalAtoms, HaveCanonicalAtoms}
 use Rattle.qe_root.specs.Occurs.{OccursInRoot, OccursInPoint}
 use Rattle.qe_subst.specs.Left.{IsLeft}
@@ -59,14 +60,6 @@ module _ (y : ℕ) where
     in_three : {A B C : Type 0} → (A → G) → (B → G) → (C → G) → A ⊎ (B ⊎ (C ⊎ ⊥)) → G
     in_three h k l m = elim m [ inl n ↦ h n | inr n ↦ in_two k l n ]
 
-    zero_from : (zero : Bool) (e n : Polynomial) → (OccursInSome y e → G) → (OccursInSome y n → G) → IsFree y (formula (zero_shape zero e n)) → G
-    zero_from true e n h k m = in_two h k m
-    zero_from false e n h k m = in_two h k m
-
-    side_from : (zero : Bool) (a b n : Polynomial) → (OccursInSome y a → G) → (OccursInSome y b → G) → (OccursInSome y n → G) → IsFree y (formula (side_shape zero a b n)) → G
-    side_from true a b n h k l m = in_two (in_two h l) (in_two k l) m
-    side_from false a b n h k l m = in_two (in_two h l) (in_two k (in_two h l)) m
-
     product_from : (a b : Polynomial) → (OccursInSome y a → G) → (OccursInSome y b → G) → OccursInSome y (product a b) → G
     product_from a b h k m = elim (occurs_product y a b m) [ inl n ↦ h n | inr n ↦ k n ]
 
@@ -80,21 +73,13 @@ module _ (y : ℕ) where
     norm_from a b r h k l =
         sum_from (product a a) (negative (triple b b r)) (product_from a a h h) (λ m. triple_from b b r k k l (occurs_negative y (triple b b r) m))
 
-    shape_from : (s : Signs) (a b e n : Polynomial) → (OccursInSome y a → G) → (OccursInSome y b → G) → (OccursInSome y e → G) → (OccursInSome y n → G)
-        → IsFree y (formula (sign_shape negative s a b e n)) → G
-    shape_from s a b e n ha hb he hn = by_sides s.minus s.plus
-      where
-        by_sides : (minus plus : Bool) → IsFree y (formula (sign_shape negative (record { minus = minus; zero = s.zero; plus = plus }) a b e n)) → G
-        by_sides true true m = zero_from s.zero e n he hn m
-        by_sides true false m = side_from s.zero a b n ha hb hn m
-        by_sides false true m = side_from s.zero (negative a) (negative b) n (λ h. ha (occurs_negative y a h)) (λ h. hb (occurs_negative y b h)) hn m
-        by_sides false false m = zero_from s.zero e n he hn m
-
     sign_from : (a b r : Polynomial) (s : Signs) → (OccursInSome y a → G) → (OccursInSome y b → G) → (OccursInSome y r → G) → IsFree y (sign_formula a b r s) → G
     sign_from a b r s ha hb hr m =
         elim (is_zero b) as (λ t. IsFree y (cond t (atomic a s) (formula (sign_shape negative s a b (product a b) (norm a b r)))) → G) [
           | true ↦ λ h. ha h
-          | false ↦ λ h. shape_from s a b (product a b) (norm a b r) ha hb (product_from a b ha hb) (norm_from a b r ha hb hr) h
+          | false ↦ λ h. free_in_shape y (sign_shape negative s a b (product a b) (norm a b r))
+              (shape_each (λ p. OccursInSome y p → G) negative a b (product a b) (norm a b r) ha hb (product_from a b ha hb) (norm_from a b r ha hb hr)
+              (λ k. ha (occurs_negative y a k)) (λ k. hb (occurs_negative y b k)) s) h
         ] m
 
   module _ (x : ℕ) where

@@ -81,7 +81,7 @@ module _ (x : ℕ) (own : Option Polynomial) where
         | true ↦ λ even. everywhere_plain f s proper
         | false ↦ λ uneven. elim (eqb (degree_in x f) 1) as (λ t. IsPlainAndProper (cond t (line_below x f s) (quadratic_below x f s))) [
           | true ↦ (mirror_proper s uneven, ((equal_proper, (proper, tt)), tt))
-          | false ↦ (strict_proper s proper uneven, ((equal_proper, (mirror_proper s uneven, tt)), ((equal_proper, (equal_proper, (proper, tt))), tt)))
+          | false ↦ (strict_proper s uneven, ((equal_proper, (mirror_proper s uneven, tt)), ((equal_proper, (equal_proper, (proper, tt))), tt)))
         ]
       ] refl
 
@@ -89,7 +89,7 @@ module _ (x : ℕ) (own : Option Polynomial) where
   above_plain k f s proper =
       elim (is_even s) as (λ t. is_even s ≡ t → IsPlainAndProper (cond t (everywhere x f s) (near x own k (degree_in x f) f s))) [
         | true ↦ λ even. everywhere_plain f s proper
-        | false ↦ λ uneven. near_plain k (degree_in x f) f s proper (strict_proper s proper uneven)
+        | false ↦ λ uneven. near_plain k (degree_in x f) f s proper (strict_proper s uneven)
       ] refl
 
   point_plain : (point : Point) (f : Polynomial) (s : Signs) → IsProper s → IsPlainAndProper (at_point x point own f s)

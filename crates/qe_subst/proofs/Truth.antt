@@ -58,7 +58,7 @@ module _ (x : ℕ) (p : Point) (valid : IsPoint p) (own : Option Polynomial) whe
     point_reads (RootPlus r) (line.above v) stands zero =
         elim (is_even s) as (λ b. is_even s ≡ b → Reads p (has_sign s (sign_at_place x p valid (line.above v) f)) (cond b (everywhere x f s) (near x own r (degree_in x f) f s))) [
           | true ↦ λ even. everywhere_reads x p valid f (sign_at_place x p valid (line.above v) f) (zero_near numbers (coefficient x p valid 2 f) (coefficient x p valid 1 f) (coefficient x p valid 0 f) v) s proper even positive low
-          | false ↦ λ uneven. near_reads x p valid v r stands own (zero_at own v zero) s (strict_proper s proper uneven) (degree_in x f) f canonical refl low
+          | false ↦ λ uneven. near_reads x p valid v r stands own (zero_at own v zero) s (strict_proper s uneven) (degree_in x f) f canonical refl low
         ] refl
     point_reads (RootPlus r) (line.at v) stands zero = absurd stands
     point_reads (RootPlus r) line.below stands zero = absurd stands
