@@ -18,7 +18,8 @@ use Rattle.qe_root.specs.declared.point.Point.{Point}
 use Rattle.qe_root.specs.declared.stop.SubstStop.{SubstStop}
 use Rattle.qe_root.specs.declared.stop.SubstStop.TheVariants as met
 use Rattle.qe_root.specs.Atoms.{atoms}
-use Rattle.qe_root.specs.SignForm.{equal, not_equal}
+use Rattle.qe_form.specs.Signs.{equal, not_equal}
+use Rattle.qe_halt.specs.Outcome.{or_else}
 use Rattle.qe_points.specs.declared.candidate.Which.TheVariants.{Linear, Upper, Lower}
 use Rattle.qe_points.specs.declared.candidate.Candidate.TheVariants.{Root, MinusInf}
 use Rattle.qe_points.specs.declared.candidate.Candidate.{Candidate}
@@ -62,7 +63,7 @@ no_size_limit n none = by (ltb 65536 n) refl none
     by true test e = absurd (cc)
     by false test e = grind (arith, nat_tests)
 
-after_first : (o rest : Option SubstStop) → ◌≡◌ {A = Option SubstStop} (elim o [ Some s ↦ Some s | None ↦ rest ]) None → rest ≡ None
+after_first : (o rest : Option SubstStop) → or_else o rest ≡ None → rest ≡ None
 after_first (Some s) rest none = absurd (cc)
 after_first None rest none = none
 

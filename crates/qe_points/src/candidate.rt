@@ -16,8 +16,8 @@ pub enum Which {
 /// Where a variable is tested.
 #[derive(Drop)]
 pub enum Candidate {
-    /// A root of a polynomial, and just above it where `plus` is true. `atom` is the number of an atom with that polynomial,
-    /// counted from 0.
+    /// A root of a polynomial, and just above it where `plus` is true. `atom` is the number of an
+    /// atom with that polynomial, counted from 0.
     Root {
         poly: Poly,
         atom: u64,

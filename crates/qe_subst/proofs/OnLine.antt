@@ -17,44 +17,25 @@ use Rattle.qe_poly.specs.Polynomial.{Polynomial, IsPolynomial}
 use Rattle.qe_poly.specs.Coefficients.{degree_in, coefficient_in}
 use Rattle.qe_form.specs.Value.{value}
 use Rattle.qe_form.proofs.Values.{value_valid, value_of_quadratic}
-use Rattle.qe_subst.proofs.Degrees.{coefficient_past, coefficient_whole}
+use Rattle.qe_root.proofs.OnLine.{at_number, coefficient, sign_on, sign_with, no_coefficient}
+use Rattle.qe_subst.proofs.Degrees.{coefficient_whole}
 
 module _ (x : ℕ) (p : Point) (valid : IsPoint p) where
-  -- the point with x given a number
-  abbrev pub at_number : ValidNumber → Point
-  at_number u = (x, u.0) ∷ p
-
-  -- the value of the coefficient of a power of x at the point
-  abbrev pub coefficient : ℕ → Polynomial → ValidNumber
-  coefficient k q = (value (coefficient_in x k q) p, value_valid p valid (coefficient_in x k q))
-
   -- it holds at the place
   abbrev pub HoldsThere : Place ValidNumber → (ValidNumber → Type 0) → Type 0
   HoldsThere k P = There valid_operations valid_sign k P
 
-  -- the sign of the quadratic with these coefficients at a number, and at a place
-  abbrev pub sign_on : Polynomial → ValidNumber → Sign
-  sign_on q v = valid_sign (quadratic valid_operations (coefficient 2 q) (coefficient 1 q) (coefficient 0 q) v)
-
+  -- the sign at a place of the quadratic with its coefficients
   abbrev pub sign_at_place : Place ValidNumber → Polynomial → Sign
-  sign_at_place k q = sign_at valid_operations valid_sign k (coefficient 2 q) (coefficient 1 q) (coefficient 0 q)
-
-  -- where x has a number, the polynomial has the sign of that quadratic
-  pub sign_with : (q : Polynomial) → IsPolynomial q → degree_in x q ≤ 2 → (u : ValidNumber) → sign_of (value q (at_number u)) ≡ sign_on q u
-  sign_with q canonical low u = valid_ordered.sign-same (value q (at_number u), value_valid (at_number u) (u.1, valid) q)
-      (quadratic valid_operations (coefficient 2 q) (coefficient 1 q) (coefficient 0 q) u) (value_of_quadratic p valid x u.0 u.1 q canonical low)
+  sign_at_place k q = sign_at valid_operations valid_sign k (coefficient x p valid 2 q) (coefficient x p valid 1 q) (coefficient x p valid 0 q)
 
   -- and at a place the sign that it has there
-  pub sign_there : (q : Polynomial) → IsPolynomial q → degree_in x q ≤ 2 → (k : Place ValidNumber) → HoldsThere k (λ u. sign_of (value q (at_number u)) ≡ sign_at_place k q)
-  sign_there q canonical low k = then numbers (sign_is numbers k (coefficient 2 q) (coefficient 1 q) (coefficient 0 q)) (λ u h. sign_with q canonical low u ∙ h)
-
-  -- past the degree the coefficients are zero
-  pub no_coefficient : (k : ℕ) (q : Polynomial) → degree_in x q < k → valid_sign (coefficient k q) ≡ Zero
-  no_coefficient k q low = ap (λ c. sign_of (value c p)) (coefficient_past x k q low)
+  pub sign_there : (q : Polynomial) → IsPolynomial q → degree_in x q ≤ 2 → (k : Place ValidNumber) → HoldsThere k (λ u. sign_of (value q (at_number x p valid u)) ≡ sign_at_place k q)
+  sign_there q canonical low k = then numbers (sign_is numbers k (coefficient x p valid 2 q) (coefficient x p valid 1 q) (coefficient x p valid 0 q)) (λ u h. sign_with x p valid q canonical low u ∙ h)
 
   -- a polynomial without x has one sign
-  pub sign_stays : (q : Polynomial) → IsPolynomial q → degree_in x q < 1 → (u : ValidNumber) → sign_on q u ≡ sign_of (value q p)
+  pub sign_stays : (q : Polynomial) → IsPolynomial q → degree_in x q < 1 → (u : ValidNumber) → sign_on x p valid q u ≡ sign_of (value q p)
   sign_stays q canonical low u =
-      same_by numbers (coefficient 2 q ∷ coefficient 1 q ∷ coefficient 0 q ∷ u ∷ []) (fact (X ⊗ X) A nought ∷ fact X B nought ∷ []) Quadratic C₀
-      (equals_zero numbers (coefficient 2 q) (no_coefficient 2 q (omega arith)), (equals_zero numbers (coefficient 1 q) (no_coefficient 1 q low), tt)) refl
+      same_by numbers (coefficient x p valid 2 q ∷ coefficient x p valid 1 q ∷ coefficient x p valid 0 q ∷ u ∷ []) (fact (X ⊗ X) A nought ∷ fact X B nought ∷ []) Quadratic C₀
+      (equals_zero numbers (coefficient x p valid 2 q) (no_coefficient x p valid 2 q (omega arith)), (equals_zero numbers (coefficient x p valid 1 q) (no_coefficient x p valid 1 q low), tt)) refl
       ∙ ap (λ c. sign_of (value c p)) (coefficient_whole x q canonical low)
