@@ -30,7 +30,7 @@ use Rattle.qe_subst.specs.Stop.{first_limit, size_limit, stop}
 use Rattle.qe_node.specs.declared.trial.Trial.{Trial}
 use Rattle.qe_node.specs.Successors.{is_false, skipped, put_in, after_limit, tried}
 use Rattle.qe_node.specs.Trial.{trial_of, MayStand, HasFitGuard}
-use Rattle.qe_node.proofs.Grown.{false_is}
+use Rattle.qe_node.proofs.Candidates.{false_is}
 
 not_false : (g : Formula) → g ≢ False → is_false g ≡ false
 not_false g other = by (is_false g) refl

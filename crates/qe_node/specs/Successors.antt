@@ -34,11 +34,11 @@ abbrev pub atom_of : Candidate → ℕ
 atom_of (Root f n which plus) = n
 atom_of MinusInf = 0
 
--- the stop of a substitution as that of a node, at the candidate with this number; want of memory is none of these
-abbrev pub stop_at : ℕ → SubstStop → NodeStop
-stop_at n (met.At atom step polynomial) = Limit n atom step polynomial
-stop_at n met.TooLarge = TooLarge n
-stop_at n met.OutOfMemory = TooLarge n
+-- the stop of a substitution as that of a node, at the candidate with this number; out of memory is none of these
+abbrev pub node_stop_at : ℕ → SubstStop → NodeStop
+node_stop_at n (met.At atom step polynomial) = Limit n atom step polynomial
+node_stop_at n met.TooLarge = TooLarge n
+node_stop_at n met.OutOfMemory = TooLarge n
 
 -- what becomes of a candidate: the node fails, or it gives no successor, or it gives one
 pub data Tried : Type 0 where
@@ -52,7 +52,7 @@ unless_false g = cond (is_false g) skipped (gives g)
 
 -- a limit in the substitution comes first
 abbrev pub after_stop : ℕ → Formula → Option SubstStop → Tried
-after_stop n g (Some s) = fails (stop_at n s)
+after_stop n g (Some s) = fails (node_stop_at n s)
 after_stop n g None = unless_false g
 
 module _ (x : ℕ) (f : Formula) where
@@ -98,9 +98,10 @@ abbrev pub at_choice : Formula → Option Var → Expanded NodeStop
 at_choice f None = failed DegreeExcess
 at_choice f (Some v) = at_variable v.0 (given_by v.0 f 0 (candidates v.0 f))
 
-abbrev pub variables : List ℕ → List Var
-variables xs = map (λ x. record { 0 = x }) xs
+-- the variables with these numbers
+abbrev pub as_vars : List ℕ → List Var
+as_vars xs = map (λ x. record { 0 = x }) xs
 
 -- what becomes of the node with these variables and this formula
 abbrev pub expansion : Expansion NodeStop
-expansion xs f = at_choice f (choice f (variables xs))
+expansion xs f = at_choice f (choice f (as_vars xs))

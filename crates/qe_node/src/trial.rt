@@ -6,7 +6,7 @@ ghost use Rattle.qe_form.specs.Plain.{IsPlainAndProper};
 ghost use Rattle.qe_form.specs.Formula.{And, more, no_more};
 ghost use Rattle.qe_form.specs.Tree.{tree};
 ghost use Rattle.qe_points.specs.Guarded.{HasRoot, own};
-ghost use Rattle.qe_node.specs.Successors.{fails, stop_at, put_in, tried, unless_false};
+ghost use Rattle.qe_node.specs.Successors.{fails, node_stop_at, put_in, tried, unless_false};
 ghost use Rattle.qe_node.specs.Trial.{trial_of, GivesFit, HasFitGuard, MayStand};
 
 use crate::{Form, NodeStop, OutOfMemory, Sequence, Var};
@@ -23,10 +23,10 @@ pub enum Trial {
     Given(Form),
 }
 
-/// The stop of a guard or a substitution as that of the node, at the candidate with this number; `Err` where it is want of memory.
+/// The stop of a guard or a substitution as that of the node, at the candidate with this number; `Err` where memory ran out.
 fn stopped(stop: SubstStop, point: u64) -> Result<Trial, OutOfMemory>
     ensures memory { IfOk result (λ _. stop ≢ SubstStop.OutOfMemory) }
-    ensures stop { IfOk result (λ t. trial_of t ≡ fails (stop_at point stop)) }
+    ensures stop { IfOk result (λ t. trial_of t ≡ fails (node_stop_at point stop)) }
     ensures fit { IfOk result GivesFit }
 {
     match stop {

@@ -31,7 +31,7 @@ fn remaining(alloc: Global, vars: &[Var], form: &Form) -> Result<Vars, OutOfMemo
 
 /// The node of a formula: with those of the variables that occur in it, in their order. The variables are distinct, and at most
 /// 65,536; the formula is plain, with sets of signs that are neither empty nor full, and has fewer than 2^50 atoms and constants.
-/// `Err` for want of memory alone.
+/// `Err` only where memory runs out.
 pub fn root(alloc: Global, vars: &[Var], form: Form) -> Result<Node, OutOfMemory>
     requires distinct { AllPairs (λ x y. x ≢ y) (map (λ v. v.0) vars.now) }
     requires short { length vars.now ≤ 65536 }

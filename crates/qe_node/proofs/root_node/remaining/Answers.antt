@@ -2,8 +2,8 @@ use Rattle.qe_tree.specs.Variables.{occurs}
 use Rattle.qe_node.proofs.Remaining.{one_more, none_more}
 use Rattle.qe_form.specs.Tree.{tree}
 use Rattle.std.proofs.Common.{length, arith, ◌<◌, ◌∙◌}
-use Rattle.qe_node.proofs.start.remaining.Goals as goal
-use Rattle.qe_node.proofs.start.remaining.Goals.{then-occurs+in_ok-push, else-occurs}
+use Rattle.qe_node.proofs.root_node.remaining.Goals as goal
+use Rattle.qe_node.proofs.root_node.remaining.Goals.{then-occurs+in_ok-push, else-occurs}
 
 pub loop-var-preserved : goal.loop-var-preserved
 loop-var-preserved c =
