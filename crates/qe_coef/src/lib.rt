@@ -4,6 +4,8 @@
 
 ghost use Rattle.std.specs.Prelude.{◌≡◌, ◌≢◌, ◌^◌, ◌+ℤ◌, ◌-ℤ◌, ◌*ℤ◌, neg_ℤ, pos, unsigned_abs, MatchOption, ◌≤ℤ◌};
 ghost use Rattle.std.specs.Int.{IsGcd};
+ghost use Rattle.std.specs.Int.RustNames.{int_lt};
+ghost use Rattle.std.specs.Ordering.{int_eq};
 ghost use Rattle.qe_coef.specs.Range.{IsInRange, Divides};
 ghost use Rattle.qe_coef.specs.Exact.{IsExact};
 
@@ -62,6 +64,36 @@ impl Coef {
         ensures { result ≡ pos 0 }
     {
         Coef { value: 0 }
+    }
+
+    /// The coefficient of a number of 64 bits.
+    pub fn small(value: i64) -> Coef
+        ensures { result ≡ value }
+    {
+        Coef {
+            value: value as i128,
+        }
+    }
+
+    /// Whether it is 0.
+    pub fn is_zero(self) -> bool
+        ensures { result ≡ int_eq self (pos 0) }
+    {
+        self.value == 0
+    }
+
+    /// Whether it is 1.
+    pub fn is_one(self) -> bool
+        ensures { result ≡ int_eq self (pos 1) }
+    {
+        self.value == 1
+    }
+
+    /// Whether it is below 0.
+    pub fn is_negative(self) -> bool
+        ensures { result ≡ int_lt self (pos 0) }
+    {
+        self.value < 0
     }
 
     /// The number.

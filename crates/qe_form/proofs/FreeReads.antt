@@ -8,7 +8,8 @@ use Rattle.qe_poly.specs.Polynomial.{Polynomial}
 use Rattle.qe_form.specs.Formula.{Formula, Formulas, True, False, Atom, And, Or, Not, Implies, Iff, Ex, All, no_more, more}
 use Rattle.qe_form.specs.Value.{power, monomial_value, value}
 use Rattle.qe_form.specs.Truth.{has_sign, Is, EachIs, SomeIs}
-use Rattle.qe_form.specs.Same.{OccursIn, OccursInSome, IsFree, IsFreeInSome}
+use Rattle.qe_form.specs.Same.{IsFree, IsFreeInSome}
+use Rattle.qe_poly.specs.Occurs.{OccursIn, OccursInSome}
 
 apart_from : (x y : ℕ) → eqb x y ≡ false → x ≢ y
 apart_from x y test same = grind (arith, nat_tests)

@@ -1,5 +1,5 @@
 -- A polynomial with y in the place of x: its variables, and its value at a point.
-use Rattle.std.proofs.Common.{ℕ, ◌≡◌, ◌≢◌, ◌∙◌, ◌⊎◌, ◌||◌, ◌&&◌, not, inl, inr, refl, sym, ap, subst, Bool, true, false, cond, eqb, [], ◌∷◌, map, arith}
+use Rattle.std.proofs.Common.{ℕ, ◌≡◌, ◌≢◌, ◌∙◌, ◌⊎◌, ◌&&◌, not, inl, inr, refl, sym, ap, subst, Bool, true, false, cond, eqb, [], ◌∷◌, map, arith}
 use Rattle.std.proofs.lemmas.Bool.{eqb-true}
 use Rattle.std.proofs.lemmas.Bool.Decides.{nat_tests}
 use Rattle.qe_ring.specs.Ring.{IsRing}
@@ -10,61 +10,14 @@ use Rattle.qe_poly.specs.declared.monomial.Var.{Var}
 use Rattle.qe_poly.specs.Monomial.{Monomial, power}
 use Rattle.qe_poly.specs.Polynomial.{Polynomial}
 use Rattle.qe_poly.specs.Value as ring
-use Rattle.qe_poly.specs.Renamed.{stands_in, stands_in_some, renamed_var, renamed_monomial, with_renamed_terms, renamed}
+use Rattle.qe_poly.specs.Renamed.{renamed_var, renamed_monomial, with_renamed_terms, renamed}
 use Rattle.qe_poly.proofs.Values.{value-same}
 use Rattle.qe_poly.proofs.RenamedValues.{renamed-value}
 use Rattle.qe_form.specs.Value.{value}
-use Rattle.qe_form.specs.Same.{OccursIn, OccursInSome}
+use Rattle.qe_poly.specs.Occurs.{OccursIn, OccursInSome, occurs_in_some}
 use Rattle.qe_form.specs.Laws.{ValueOfRenamed}
-use Rattle.qe_form.proofs.Occurrences.{occurs_collected, occurs_times}
+use Rattle.qe_poly.proofs.Occurring.{occurs_collected, occurs_times, occurs_in_some_is, occurs_nowhere}
 use Rattle.qe_form.proofs.Values.{valid_whole, whole_numbers, number_at_valid, valid_point, valid_value, value-number, rewritten, with_number}
-
--- ---- the test and the statement that a variable occurs
-
-eqb_itself : (i j : ℕ) → i ≡ j → eqb i j ≡ true
-eqb_itself i j same = grind (arith, nat_tests)
-
-or_left : (s t : Bool) → s ≡ true → (s || t) ≡ true
-or_left true t one = refl
-or_left false t one = absurd (cc)
-
-or_right : (s t : Bool) → t ≡ true → (s || t) ≡ true
-or_right true t one = refl
-or_right false t one = one
-
-stands_where : (x : ℕ) (m : Monomial) → OccursIn x m → stands_in x m ≡ true
-stands_where x [] h = absurd h
-stands_where x (a ∷ m) (inl e) = or_left (eqb a.var.0 x) (stands_in x m) (eqb_itself a.var.0 x e)
-stands_where x (a ∷ m) (inr h) = or_right (eqb a.var.0 x) (stands_in x m) (stands_where x m h)
-
-pub stands_in_some_where : (x : ℕ) (q : Polynomial) → OccursInSome x q → stands_in_some x q ≡ true
-stands_in_some_where x [] h = absurd h
-stands_in_some_where x (t ∷ ts) (inl h) = or_left (stands_in x t.0) (stands_in_some x ts) (stands_where x t.0 h)
-stands_in_some_where x (t ∷ ts) (inr h) = or_right (stands_in x t.0) (stands_in_some x ts) (stands_in_some_where x ts h)
-
-occurs_where : (x : ℕ) (m : Monomial) → stands_in x m ≡ true → OccursIn x m
-occurs_where x [] h = absurd (cc)
-occurs_where x (a ∷ m) h = by_test (eqb a.var.0 x) refl h (occurs_where x m)
-  where
-    by_test : (b : Bool) → eqb a.var.0 x ≡ b → (b || stands_in x m) ≡ true → (stands_in x m ≡ true → OccursIn x m) → (a.var.0 ≡ x) ⊎ OccursIn x m
-    by_test true same some again = inl (eqb-true a.var.0 x same)
-    by_test false apart some again = inr (again some)
-
-occurs_in_some_where : (x : ℕ) (q : Polynomial) → stands_in_some x q ≡ true → OccursInSome x q
-occurs_in_some_where x [] h = absurd (cc)
-occurs_in_some_where x (t ∷ ts) h = by_test (stands_in x t.0) refl h (occurs_in_some_where x ts)
-  where
-    by_test : (b : Bool) → stands_in x t.0 ≡ b → (b || stands_in_some x ts) ≡ true → (stands_in_some x ts ≡ true → OccursInSome x ts) → OccursIn x t.0 ⊎ OccursInSome x ts
-    by_test true here some again = inl (occurs_where x t.0 here)
-    by_test false apart some again = inr (again some)
-
--- a variable that does not occur does not stand there
-pub stands_nowhere : (x : ℕ) (q : Polynomial) → (OccursInSome x q → ⊥) → stands_in_some x q ≡ false
-stands_nowhere x q none = by_test (stands_in_some x q) refl
-  where
-    by_test : (b : Bool) → stands_in_some x q ≡ b → b ≡ false
-    by_test true some = absurd (none (occurs_in_some_where x q some))
-    by_test false free = refl
 
 -- ---- which variables occur
 
@@ -106,11 +59,11 @@ module _ (x y : Var) (z : ℕ) where
   occurs_renamed_terms (t ∷ ts) (inl h) = weaker inl inl (occurs_renamed_monomial t.0 h)
   occurs_renamed_terms (t ∷ ts) (inr h) = weaker inr inr (occurs_renamed_terms ts h)
 
-  pub occurs_renamed : (q : Polynomial) → stands_in_some y.0 q ≡ false → OccursInSome z (renamed x y q) → From (OccursInSome x.0 q) (OccursInSome z q)
+  pub occurs_renamed : (q : Polynomial) → occurs_in_some y.0 q ≡ false → OccursInSome z (renamed x y q) → From (OccursInSome x.0 q) (OccursInSome z q)
   occurs_renamed q none h =
-      elim (stands_in_some x.0 q) as (λ b. stands_in_some x.0 q ≡ b → OccursInSome z (cond (b && not (stands_in_some y.0 q)) (with_renamed_terms x y q) q) → From (OccursInSome x.0 q) (OccursInSome z q)) [
+      elim (occurs_in_some x.0 q) as (λ b. occurs_in_some x.0 q ≡ b → OccursInSome z (cond (b && not (occurs_in_some y.0 q)) (with_renamed_terms x y q) q) → From (OccursInSome x.0 q) (OccursInSome z q)) [
         | true ↦ λ some k. occurs_renamed_terms q (occurs_collected z _ (subst (λ t. OccursInSome z (cond (not t) (with_renamed_terms x y q) q)) none k))
-        | false ↦ λ free k. inr (λ same. no_way (sym (stands_in_some_where x.0 q (subst (λ i. OccursInSome i q) same k)) ∙ free), k)
+        | false ↦ λ free k. inr (λ same. no_way (sym ((occurs_in_some_is x.0 q).1 (subst (λ i. OccursInSome i q) same k)) ∙ free), k)
       ] refl h
 
 -- ---- the value
@@ -118,7 +71,7 @@ module _ (x y : Var) (z : ℕ) where
 abbrev R : IsRing valid_operations ValidEqual
 R = valid_ordered.ring
 
-module _ (x y : Var) (q : Polynomial) (p : Point) (valid : IsPoint p) (none : stands_in_some y.0 q ≡ false) where
+module _ (x y : Var) (q : Polynomial) (p : Point) (valid : IsPoint p) (none : occurs_in_some y.0 q ≡ false) where
   -- the point where x has the number of y
   abbrev moved : Point
   moved = (x.0, number_at p y.0) ∷ p
@@ -141,4 +94,4 @@ module _ (x y : Var) (q : Polynomial) (p : Point) (valid : IsPoint p) (none : st
       ∙ (valid_ordered.sign-same (valid_value p valid (renamed x y q)) (valid_value moved valid_moved q) same_values ∙ ap sign_of (value-number moved valid_moved q))
 
 pub value_of_renamed : ValueOfRenamed
-value_of_renamed x y q p valid none = same_value x y q p valid (stands_nowhere y.0 q none)
+value_of_renamed x y q p valid none = same_value x y q p valid (occurs_nowhere y.0 q none)

@@ -13,7 +13,8 @@ use Rattle.qe_form.specs.Measures.{Has}
 use Rattle.qe_form.specs.Order.{formula_cmp}
 use Rattle.qe_form.specs.Value.{value}
 use Rattle.qe_form.specs.Truth.{Is}
-use Rattle.qe_form.specs.Same.{OccursInSome, IsFree, HasNoQuantifier, Gives, Same, SameEach}
+use Rattle.qe_form.specs.Same.{IsFree, HasNoQuantifier, Gives, Same, SameEach}
+use Rattle.qe_poly.specs.Occurs.{OccursInSome}
 use Rattle.qe_form.specs.Preserved.{Preserves, IsDecided, HasDecidedCore, HasOuterQuantifiers}
 
 -- no formula is both true and false at a point

@@ -8,6 +8,7 @@ pub mod Preserved
 pub mod Numbered
 pub mod Plain
 pub mod Measures
+pub mod Making
 pub mod Order
 pub mod Fed
 pub mod Negation

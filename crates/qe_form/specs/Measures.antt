@@ -1,8 +1,8 @@
 -- The number of atoms of a formula, its degree in a variable, and the variables in its polynomials.
-use Rattle.std.specs.Prelude.{ℕ, ◌+◌, max, ◌⊎◌}
+use Rattle.std.specs.Prelude.{ℕ, ◌+◌, max, ◌⊎◌, Bool, false, ◌||◌}
 use Rattle.qe_poly.specs.Coefficients.{degree_in}
 use Rattle.qe_form.specs.Formula.{Formula, Formulas, True, False, Atom, And, Or, Not, Implies, Iff, Ex, All, no_more, more}
-use Rattle.qe_form.specs.Same.{OccursInSome}
+use Rattle.qe_poly.specs.Occurs.{OccursInSome, occurs_in_some}
 
 -- how many atoms, constants and quantifiers there are
 abbrev mutual
@@ -57,3 +57,21 @@ abbrev mutual
   pub SomeHas : ℕ → Formulas → Type 0
   SomeHas x no_more = ⊥
   SomeHas x (more f fs) = Has x f ⊎ SomeHas x fs
+
+-- the test whether it does
+abbrev mutual
+  pub occurs : ℕ → Formula → Bool
+  occurs x True = false
+  occurs x False = false
+  occurs x (Atom a) = occurs_in_some x a.poly
+  occurs x (And fs) = occurs_in_one x fs
+  occurs x (Or fs) = occurs_in_one x fs
+  occurs x (Not f) = occurs x f
+  occurs x (Implies f g) = occurs x f || occurs x g
+  occurs x (Iff f g) = occurs x f || occurs x g
+  occurs x (Ex y f) = occurs x f
+  occurs x (All y f) = occurs x f
+
+  pub occurs_in_one : ℕ → Formulas → Bool
+  occurs_in_one x no_more = false
+  occurs_in_one x (more f fs) = occurs x f || occurs_in_one x fs

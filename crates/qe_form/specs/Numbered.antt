@@ -2,7 +2,8 @@
 use Rattle.std.specs.Prelude.{ℕ, ◌<◌, ◌≡◌, ◌⊎◌, List, [], ◌∷◌, ◌++◌, length, slice_get, nat_eq}
 use Rattle.std.specs.List.{IsDistinct, Contains}
 use Rattle.qe_form.specs.Formula.{Formula, Formulas, True, False, Atom, And, Or, Not, Implies, Iff, Ex, All, no_more, more}
-use Rattle.qe_form.specs.Same.{OccursInSome, IsFree}
+use Rattle.qe_form.specs.Same.{IsFree}
+use Rattle.qe_poly.specs.Occurs.{OccursInSome}
 
 -- the variables that quantifiers bind, in order
 abbrev mutual

@@ -1,21 +1,10 @@
 -- When two formulas mean the same.
-use Rattle.std.specs.Prelude.{ℕ, Bool, ◌≡◌, ◌≢◌, ◌⊎◌, ◌↔◌, [], ◌∷◌, Some}
+use Rattle.std.specs.Prelude.{ℕ, Bool, ◌≡◌, ◌≢◌, ◌⊎◌, ◌↔◌, Some}
 use Rattle.qe_tower.specs.Number.{Number}
 use Rattle.qe_tower.specs.Point.{Point, IsPoint, look_up}
-use Rattle.qe_poly.specs.Monomial.{Monomial}
-use Rattle.qe_poly.specs.Polynomial.{Polynomial}
+use Rattle.qe_poly.specs.Occurs.{OccursInSome}
 use Rattle.qe_form.specs.Formula.{Formula, Formulas, True, False, Atom, And, Or, Not, Implies, Iff, Ex, All, no_more, more}
 use Rattle.qe_form.specs.Truth.{Is}
-
--- the variable occurs in the monomial
-abbrev pub OccursIn : ℕ → Monomial → Type 0
-OccursIn x [] = ⊥
-OccursIn x (a ∷ m) = (a.var.0 ≡ x) ⊎ OccursIn x m
-
--- the variable occurs in the polynomial
-abbrev pub OccursInSome : ℕ → Polynomial → Type 0
-OccursInSome x [] = ⊥
-OccursInSome x (t ∷ ts) = OccursIn x t.0 ⊎ OccursInSome x ts
 
 -- the variable is free in the formula
 abbrev mutual

@@ -1,6 +1,28 @@
 -- Sets of signs, each as a record that says of minus, zero and plus whether it is in the set.
-use Rattle.std.specs.Prelude.{ℕ, Bool, not, ◌&&◌, ◌||◌, ◌+◌, ◌*◌, ◌<◌, if◌then◌else◌}
+use Rattle.std.specs.Prelude.{ℕ, Bool, true, false, cond, not, ◌&&◌, ◌||◌, ◌+◌, ◌*◌, ◌<◌, if◌then◌else◌}
 use Rattle.qe_form.specs.declared.signs.Signs.{Signs}
+
+-- ---- the sets of the relations with zero
+
+abbrev pub less : Signs
+less = record { minus = true; zero = false; plus = false }
+
+abbrev pub less_or_equal : Signs
+less_or_equal = record { minus = true; zero = true; plus = false }
+
+abbrev pub equal : Signs
+equal = record { minus = false; zero = true; plus = false }
+
+abbrev pub not_equal : Signs
+not_equal = record { minus = true; zero = false; plus = true }
+
+abbrev pub greater_or_equal : Signs
+greater_or_equal = record { minus = false; zero = true; plus = true }
+
+abbrev pub greater : Signs
+greater = record { minus = false; zero = false; plus = true }
+
+-- ---- operations
 
 -- 1 for a sign that is in the set, and 0 for one that is not
 abbrev pub bit : Bool → ℕ
@@ -25,6 +47,14 @@ complement s = record { plus = not s.plus; zero = not s.zero; minus = not s.minu
 -- minus and plus change places, as the signs of the negatives
 abbrev pub mirror : Signs → Signs
 mirror s = record { plus = s.minus; zero = s.zero; minus = s.plus }
+
+-- the signs without zero
+abbrev pub strict : Signs → Signs
+strict s = record { minus = s.minus; zero = false; plus = s.plus }
+
+-- Minus and plus are both in the set, or neither is. Of the sets that are neither empty nor full these are `=` and `<>`.
+abbrev pub is_even : Signs → Bool
+is_even s = cond s.minus s.plus (cond s.plus false true)
 
 -- some sign is in the set, and some is not
 abbrev pub IsProper : Signs → Type 0

@@ -5,6 +5,7 @@
 mod form;
 mod hash;
 pub mod laws;
+mod making;
 mod measures;
 mod names;
 mod negation;
@@ -12,6 +13,7 @@ mod order;
 mod signs;
 
 pub use form::{Atom, Form, Forms};
+pub use measures::{MOST_COUNTED, count_sum};
 pub use names::{Input, Names};
 pub use qe_list::Sequence;
 pub use qe_poly::{Poly, Var};

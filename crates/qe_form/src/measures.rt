@@ -1,55 +1,21 @@
 //! How many atoms a formula has, its degree in a variable, and whether a variable occurs in it.
 
-ghost use Rattle.std.specs.Prelude.{◌≡◌, ◌≤◌, ◌+◌, ◌↔◌, IsTrue, min, map};
-ghost use Rattle.qe_poly.specs.Rows.{shown};
+ghost use Rattle.std.specs.Prelude.{◌≡◌, ◌≤◌, ◌+◌, ◌↔◌, IsTrue, min};
 ghost use Rattle.qe_form.specs.Tree.{tree, trees};
-ghost use Rattle.qe_form.specs.Same.{OccursIn, OccursInSome};
-ghost use Rattle.qe_form.specs.Measures.{count, count_each, degree, degree_of_some, Has, SomeHas};
+ghost use Rattle.qe_form.specs.Measures.{count, count_each, degree, degree_of_some, occurs, occurs_in_one, Has};
 
-use crate::{Form, Forms, Poly, Var};
-use qe_poly::{Power, Term};
+use crate::{Form, Forms, Var};
 
-/// Where `atom_count` stops: one more than a formula may have.
-const MOST_COUNTED: u32 = 65_537;
+/// Where counts of atoms stop: one more than a formula may have.
+pub const MOST_COUNTED: u32 = 65_537;
 
 /// The sum of two counts, which stops at 65,537.
-fn count_sum(left: u32, right: u32) -> u32
+pub fn count_sum(left: u32, right: u32) -> u32
     requires left_stops { left ≤ 65537 }
     requires right_stops { right ≤ 65537 }
     ensures { result ≡ min 65537 (left + right) }
 {
     MOST_COUNTED.min(left + right)
-}
-
-/// Whether a variable is that of one of the powers.
-fn occurs_in(powers: &[Power], var: Var) -> bool
-    ensures { IsTrue result ↔ OccursIn var.0 powers.now }
-{
-    for power in powers {
-        if power.var == var {
-            return true;
-        }
-    }
-    false
-}
-
-/// Whether a variable occurs in one of the terms.
-fn occurs_in_some(terms: &[Term], var: Var) -> bool
-    ensures { IsTrue result ↔ OccursInSome var.0 (map shown terms.now) }
-{
-    for term in terms {
-        if occurs_in(term.monomial.powers(), var) {
-            return true;
-        }
-    }
-    false
-}
-
-/// Whether a variable occurs in a polynomial.
-fn poly_has(poly: &Poly, var: Var) -> bool
-    ensures { IsTrue result ↔ OccursInSome var.0 poly.now }
-{
-    occurs_in_some(poly.terms(), var)
 }
 
 impl Form {
@@ -87,18 +53,12 @@ impl Form {
     }
 
     /// Whether a variable occurs in one of its polynomials, free or bound.
-    #[cycle(has)]
+    #[tactic(auto, using(crate::proofs::Occurring::occurs_is_has))]
     pub fn has(&self, var: Var) -> bool
-        ensures { IsTrue result ↔ Has var.0 (tree self.now) }
+        ensures exact { result ≡ occurs var.0 (tree self.now) }
+        ensures has { IsTrue result ↔ Has var.0 (tree self.now) }
     {
-        match self {
-            Form::True | Form::False => false,
-            Form::Atom(atom) => poly_has(&atom.poly, var),
-            Form::And(parts) | Form::Or(parts) => some_has(parts, var),
-            Form::Not(inner) => inner.has(var),
-            Form::Implies(left, right) | Form::Iff(left, right) => left.has(var) || right.has(var),
-            Form::Ex(_, body) | Form::All(_, body) => body.has(var),
-        }
+        occurs(self, var)
     }
 }
 
@@ -127,12 +87,28 @@ fn degree_of_all(forms: &Forms, var: Var) -> u32
     degree
 }
 
-#[cycle(has)]
-fn some_has(forms: &Forms, var: Var) -> bool
-    ensures { IsTrue result ↔ SomeHas var.0 (trees forms.now) }
+#[cycle(occurs)]
+fn occurs(form: &Form, var: Var) -> bool
+    ensures { result ≡ occurs var.0 (tree form.now) }
+{
+    match form {
+        Form::True | Form::False => false,
+        Form::Atom(atom) => atom.poly.has(var),
+        Form::And(parts) | Form::Or(parts) => occurs_in_one(parts, var),
+        Form::Not(inner) => occurs(inner, var),
+        Form::Implies(left, right) | Form::Iff(left, right) => {
+            occurs(left, var) || occurs(right, var)
+        }
+        Form::Ex(_, body) | Form::All(_, body) => occurs(body, var),
+    }
+}
+
+#[cycle(occurs)]
+fn occurs_in_one(forms: &Forms, var: Var) -> bool
+    ensures { result ≡ occurs_in_one var.0 (trees forms.now) }
 {
     for form in forms.items() {
-        if form.has(var) {
+        if occurs(form, var) {
             return true;
         }
     }

@@ -1,7 +1,7 @@
 //! Sets of signs.
 
 ghost use Rattle.std.specs.Prelude.{◌≡◌};
-ghost use Rattle.qe_form.specs.Signs.{bits, union, intersection, complement, mirror};
+ghost use Rattle.qe_form.specs.Signs.{bits, union, intersection, complement, mirror, strict, is_even};
 
 /// A set of signs out of minus, zero and plus.
 #[derive(Clone, Copy, Debug, PartialEq, Eq, Hash, PartialOrd, Ord)]
@@ -12,6 +12,48 @@ pub struct Signs {
 }
 
 impl Signs {
+    /// The sign of a polynomial that is less than zero.
+    pub const LESS: Signs = Signs {
+        plus: false,
+        zero: false,
+        minus: true,
+    };
+
+    /// The signs of one that is at most zero.
+    pub const LESS_OR_EQUAL: Signs = Signs {
+        plus: false,
+        zero: true,
+        minus: true,
+    };
+
+    /// The sign of one that is zero.
+    pub const EQUAL: Signs = Signs {
+        plus: false,
+        zero: true,
+        minus: false,
+    };
+
+    /// The signs of one that is not zero.
+    pub const NOT_EQUAL: Signs = Signs {
+        plus: true,
+        zero: false,
+        minus: true,
+    };
+
+    /// The signs of one that is at least zero.
+    pub const GREATER_OR_EQUAL: Signs = Signs {
+        plus: true,
+        zero: true,
+        minus: false,
+    };
+
+    /// The sign of one that is greater than zero.
+    pub const GREATER: Signs = Signs {
+        plus: true,
+        zero: false,
+        minus: false,
+    };
+
     /// The set that has each sign whose argument is true.
     pub fn of(minus: bool, zero: bool, plus: bool) -> Signs
         ensures { result ≡ record { plus = plus; zero = zero; minus = minus } }
@@ -89,5 +131,23 @@ impl Signs {
         ensures { result ≡ self.zero }
     {
         self.zero
+    }
+
+    /// The signs without zero.
+    pub fn strict(self) -> Signs
+        ensures { result ≡ strict self }
+    {
+        Signs {
+            plus: self.plus,
+            zero: false,
+            minus: self.minus,
+        }
+    }
+
+    /// Whether minus and plus are both in the set, or neither is.
+    pub fn is_even(self) -> bool
+        ensures { result ≡ is_even self }
+    {
+        self.minus == self.plus
     }
 }

@@ -7,7 +7,7 @@ use Rattle.qe_tower.specs.Point.{Point, IsPoint, look_up, or_zero, number_at}
 use Rattle.qe_poly.specs.Polynomial.{Polynomial}
 use Rattle.qe_poly.specs.Renamed.{renamed}
 use Rattle.qe_form.specs.Value.{value}
-use Rattle.qe_form.specs.Same.{OccursInSome}
+use Rattle.qe_poly.specs.Occurs.{OccursInSome}
 use Rattle.qe_form.proofs.Values.{number_at_valid}
 use Rattle.qe_form.proofs.Renamed.{stands_nowhere, occurs_renamed, same_sign}
 use Rattle.qe_norm.specs.declared.walk.Renaming.{Renaming}

@@ -17,7 +17,8 @@ use Rattle.qe_form.specs.declared.form.Atom as atom
 use Rattle.qe_form.specs.Formula.{Formula, Formulas, True, False, Atom, And, Or, Ex, no_more, more}
 use Rattle.qe_form.specs.Measures.{degree, degree_of_some}
 use Rattle.qe_form.specs.Plain.{IsPlain, IsPlainWith, ArePlainWith}
-use Rattle.qe_form.specs.Same.{OccursInSome, IsFree, IsFreeInSome}
+use Rattle.qe_form.specs.Same.{IsFree, IsFreeInSome}
+use Rattle.qe_poly.specs.Occurs.{OccursInSome}
 use Rattle.qe_form.specs.Truth.{Is}
 use Rattle.qe_form.proofs.TwoSides.{never_both, decided}
 use Rattle.qe_simp.proofs.Shapes.{plain_no_quantifier}

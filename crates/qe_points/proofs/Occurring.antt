@@ -11,7 +11,7 @@ use Rattle.qe_poly.specs.Monomial.{Monomial, in_turn, IsMonomial, IsAbove, times
 use Rattle.qe_poly.specs.Polynomial.{Term, Polynomial, Group, IsPolynomial, enter, with_first, gathered, total, nonzero, collected, negative, sum, difference, pairs, pair_product, products, product}
 use Rattle.qe_poly.specs.Coefficients.{exponent_of, without, degree_in, coefficient_in}
 use Rattle.qe_poly.specs.Value.{scaled}
-use Rattle.qe_form.specs.Same.{OccursIn, OccursInSome}
+use Rattle.qe_poly.specs.Occurs.{OccursIn, OccursInSome}
 
 -- ---- coefficients
 

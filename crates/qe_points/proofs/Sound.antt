@@ -7,11 +7,12 @@ use Rattle.qe_poly.specs.Polynomial.{Polynomial, IsPolynomial, constant, negativ
 use Rattle.qe_poly.specs.Coefficients.{degree_in, coefficient_in}
 use Rattle.qe_poly.specs.Value.{scaled}
 use Rattle.qe_poly.specs.declared.limit.PolyLimit.{PolyLimit}
-use Rattle.qe_poly.specs.declared.limit.PolyStop.{PolyStop}
-use Rattle.qe_poly.specs.Limits.{IsStop}
+use Rattle.qe_halt.specs.declared.halt.Halt.{Halt}
+use Rattle.qe_halt.specs.Outcome.{IsStop}
 use Rattle.qe_form.specs.Formula.{Formula}
 use Rattle.qe_form.specs.Plain.{IsPlain}
-use Rattle.qe_form.specs.Same.{OccursInSome, IsFree}
+use Rattle.qe_form.specs.Same.{IsFree}
+use Rattle.qe_poly.specs.Occurs.{OccursInSome}
 use Rattle.qe_form.specs.Tree.{tree}
 use Rattle.qe_form.specs.Truth.{Is}
 use Rattle.qe_simp.specs.Meaning.{Keeps}
@@ -173,7 +174,7 @@ answer_sound x c f n which plus found (Some g) is canonical made guarded kept si
 
 -- ---- a refusal that is handed on
 
-pub handed_on : {A : Type 0} (met limit : Option PolyLimit) (P : A → Type 0) (result : Result A PolyStop) (stop : PolyStop) → IsErr result → IsErrAnd result (λ e. e ≡ stop)
+pub handed_on : {A : Type 0} (met limit : Option PolyLimit) (P : A → Type 0) (result : Result A (Halt PolyLimit)) (stop : Halt PolyLimit) → IsErr result → IsErrAnd result (λ e. e ≡ stop)
     → met ≡ limit → IsStop met stop → IsOutcome limit P result
 handed_on met limit P (Ok a) stop failed same is is_stop = absurd (cc)
 handed_on met limit P (Err e) stop failed same is is_stop = subst (λ l. IsStop l e) is (subst (λ s. IsStop met s) (sym same) is_stop)

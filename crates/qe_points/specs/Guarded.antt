@@ -5,11 +5,12 @@ use Rattle.qe_tower.specs.Number.{ValidNumber}
 use Rattle.qe_line.specs.Place.{Place}
 use Rattle.qe_poly.specs.Polynomial.{Polynomial}
 use Rattle.qe_poly.specs.Coefficients.{degree_in}
-use Rattle.qe_poly.specs.declared.limit.PolyStop.{PolyStop}
-use Rattle.qe_poly.specs.declared.limit.PolyStop.TheVariants as met
+use Rattle.qe_halt.specs.declared.halt.Halt.{Halt}
+use Rattle.qe_halt.specs.declared.halt.Halt.TheVariants as met
 use Rattle.qe_form.specs.Formula.{Formula, False}
 use Rattle.qe_form.specs.Plain.{IsPlainAndProper}
-use Rattle.qe_form.specs.Same.{OccursInSome, IsFree}
+use Rattle.qe_form.specs.Same.{IsFree}
+use Rattle.qe_poly.specs.Occurs.{OccursInSome}
 use Rattle.qe_form.specs.Tree.{tree}
 use Rattle.qe_form.specs.Truth.{Is}
 use Rattle.qe_simp.specs.Simplified.{simplified}
@@ -115,6 +116,6 @@ is_false False = true
 is_false f = false
 
 -- the refusal for an atom: a limit in its guard
-abbrev pub stop_at : ℕ → PolyStop → SubstStop
+abbrev pub stop_at : ℕ → Halt PolyLimit → SubstStop
 stop_at atom (met.Limit limit) = stop.At atom stage.Guard limit
 stop_at atom met.OutOfMemory = stop.OutOfMemory

@@ -2,7 +2,7 @@
 
 ghost use Rattle.std.specs.Prelude.{◌≡◌, ◌≢◌, ◌≤ℤ◌, pos, negsuc, IfOk, IfSome, cond, None, Some};
 ghost use Rattle.qe_poly.specs.Polynomial as spec;
-ghost use Rattle.qe_poly.specs.Limits.{IsAnswer};
+ghost use Rattle.qe_halt.specs.Outcome.{IsAnswer};
 ghost use Rattle.qe_poly.specs.Coefficients.{coefficient_in};
 ghost use Rattle.qe_poly.specs.Value.{scaled};
 ghost use Rattle.qe_form.specs.Plain.{IsPlain};

@@ -11,7 +11,8 @@ use Rattle.qe_poly.specs.declared.term.Term as kept
 use Rattle.qe_poly.specs.declared.tally.Group as kept_group
 use Rattle.qe_poly.specs.Monomial.{Monomial, in_turn}
 use Rattle.qe_poly.specs.Polynomial.{Term, Polynomial, pairs, products}
-use Rattle.qe_poly.specs.Limits.{first_limit, limit_if, or_else, wide}
+use Rattle.qe_poly.specs.Limits.{first_limit, limit_if, wide}
+use Rattle.qe_halt.specs.Outcome.{or_else}
 use Rattle.qe_poly.specs.Rows.{shown}
 use Rattle.qe_poly.specs.Tally.{Tally, shown_group, tally_more, empty_tally, enter_tally}
 use Rattle.qe_poly.specs.Collected.{product_row, has_high, exponent_limit, entered, fitted, fitted_row, row_wide, pairs_wide, monomials_limit}

@@ -15,7 +15,8 @@ use Rattle.qe_poly.specs.declared.limit.PolyLimit.TheVariants.{Coefficient, Expo
 use Rattle.qe_poly.specs.declared.term.Term as kept
 use Rattle.qe_poly.specs.Monomial.{Monomial, in_turn, times}
 use Rattle.qe_poly.specs.Polynomial.{Term, Polynomial, Group, IsPolynomial, with_first, enter, gathered, total, totals, term_unless_zero, products, product}
-use Rattle.qe_poly.specs.Limits.{first_limit, limit_if, or_else, wide, magnitude_limit, product_limit}
+use Rattle.qe_poly.specs.Limits.{first_limit, limit_if, wide, magnitude_limit, product_limit}
+use Rattle.qe_halt.specs.Outcome.{or_else}
 use Rattle.qe_poly.specs.Rows.{shown}
 use Rattle.qe_poly.specs.Tally.{Tally, empty_tally, tally_more, next_tally, enter_tally, leaves_range}
 use Rattle.qe_poly.specs.Collected.{product_row, has_high, fit, fitted_row, fitted, entered, limit_of, row_wide, pairs_wide, tallied_limit, tallied_terms, collected_limit}

@@ -12,11 +12,12 @@ use Rattle.qe_coef.specs.Exact.{exact}
 use Rattle.qe_coef.specs.Range.{IsInRange}
 use Rattle.qe_poly.specs.declared.limit.PolyLimit.{PolyLimit}
 use Rattle.qe_poly.specs.declared.limit.PolyLimit.TheVariants.{Coefficient}
-use Rattle.qe_poly.specs.declared.limit.PolyStop.{PolyStop}
-use Rattle.qe_poly.specs.declared.limit.PolyStop.TheVariants.{Limit, OutOfMemory}
+use Rattle.qe_halt.specs.declared.halt.Halt.{Halt}
+use Rattle.qe_halt.specs.declared.halt.Halt.TheVariants.{Limit, OutOfMemory}
 use Rattle.qe_poly.specs.Monomial.{Monomial, in_turn}
 use Rattle.qe_poly.specs.Polynomial.{Polynomial, IsPolynomial, coefficient, constant, difference}
-use Rattle.qe_poly.specs.Limits.{wide, limit_if, or_else, sum_limit, IsAnswer}
+use Rattle.qe_poly.specs.Limits.{wide, limit_if, sum_limit}
+use Rattle.qe_halt.specs.Outcome.{or_else, IsAnswer}
 use Rattle.qe_poly.proofs.Canonical.{not_zero, same_polynomial}
 use Rattle.qe_poly.proofs.MergedSums.{IsPolynomial-difference, coefficient-difference}
 
@@ -86,7 +87,7 @@ wide-in_range op a b in_range =
 pub IsInRange-difference : (a b : ℤ) → pos 0 ≤ℤ a → pos 0 ≤ℤ b → IsInRange a → IsInRange b → IsInRange (a -ℤ b)
 IsInRange-difference a b a_sign b_sign a_range b_range = omega (arith, ints)
 
-met_none : (a b : ℤ) (result : Result Polynomial PolyStop) → IsInRange (a -ℤ b)
+met_none : (a b : ℤ) (result : Result Polynomial (Halt PolyLimit)) → IsInRange (a -ℤ b)
     → IsAnswer (sum_limit Sub (constant a) (constant b)) (difference (constant a) (constant b)) result → MatchResult result (λ p. p ≡ constant (a -ℤ b)) (λ stop. stop ≡ OutOfMemory)
 met_none a b (Ok p) in_range answer = answer.1 ∙ difference-constants a b
 met_none a b (Err OutOfMemory) in_range answer = refl
@@ -94,7 +95,7 @@ met_none a b (Err (Limit met)) in_range answer =
     absurd (let none : sum_limit Sub (constant a) (constant b) ≡ None = sum_limit-constants Sub a b ∙ wide-in_range Sub a b in_range in cc)
 
 -- Taking one constant from another meets no limit, where neither is negative.
-pub constants_subtracted : (a b : ℤ) (p q : Polynomial) (result : Result Polynomial PolyStop) → pos 0 ≤ℤ a → pos 0 ≤ℤ b → IsInRange a → IsInRange b → p ≡ constant a → q ≡ constant b
+pub constants_subtracted : (a b : ℤ) (p q : Polynomial) (result : Result Polynomial (Halt PolyLimit)) → pos 0 ≤ℤ a → pos 0 ≤ℤ b → IsInRange a → IsInRange b → p ≡ constant a → q ≡ constant b
     → IsAnswer (sum_limit Sub p q) (difference p q) result → MatchResult result (λ r. r ≡ constant (a -ℤ b)) (λ stop. stop ≡ OutOfMemory)
 constants_subtracted a b p q result a_sign b_sign a_range b_range left right answer =
     met_none a b result (IsInRange-difference a b a_sign b_sign a_range b_range) (subst (λ f. f) (λ i. IsAnswer (sum_limit Sub (left i) (right i)) (difference (left i) (right i)) result) answer)

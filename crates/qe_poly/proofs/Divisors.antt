@@ -14,7 +14,7 @@ use Rattle.qe_coef.specs.Range.{Divides}
 use Rattle.qe_poly.specs.Monomial.{Monomial}
 use Rattle.qe_poly.specs.Polynomial.{Term, Polynomial, IsBelow, IsPolynomial}
 use Rattle.qe_poly.specs.Value.{scaled}
-use Rattle.qe_poly.specs.Primitive.{divides_each, greatest_divisor, content, leads_negative, negated_if, divided, primitive, IsMultiple, DividesEach, IsContent}
+use Rattle.qe_poly.specs.Primitive.{divides_each, greatest_divisor, content, leads_negative, negated_if, divided, primitive, IsMultiple, DividesEach, IsContent, IsOwnPrimitive}
 
 -- ---- quotients
 
@@ -181,3 +181,20 @@ divided_by_content (t ∷ ts) poly other d g divisors is =
 -- equals in the place of equals
 pub multiple_moved : (p p' q q' : Polynomial) (b b' : Bool) → p ≡ p' → q ≡ q' → b ≡ b' → IsMultiple p q b → IsMultiple p' q' b'
 multiple_moved p p' q q' b b' same same_too alike multiple = (multiple.0, multiple.1, sym same ∙ (multiple.2 ∙ λ i. scaled (negated_if (alike i) multiple.0) (same_too i)))
+
+-- divided by one it stays as it is
+divided_by_one : (p : Polynomial) → IsPolynomial p → DividesEach 1 p → divided (pos 1) p ≡ p
+divided_by_one [] poly each = refl
+divided_by_one (t ∷ ts) poly each = λ i. (t.0, sym (quotient t.1 (pos 1) each.0 ∙ int_ring.mul-one (int_div t.1 (pos 1))) i) ∷ divided_by_one ts poly.3 each.1 i
+
+-- what a test tells that finds no negative leading coefficient and the content one
+pub primitive_itself : (p : Polynomial) → IsPolynomial p → (g : ℤ) → IsContent (unsigned_abs g) p → leads_negative p ≡ false → int_eq g (pos 1) ≡ true → IsOwnPrimitive p
+primitive_itself [] poly g divisors leads one = (refl, refl, (1, omega arith, refl))
+primitive_itself (t ∷ ts) poly g divisors leads one =
+    let content_one = subst (λ n. IsContent n (t ∷ ts)) (ap unsigned_abs ((Decides-int_eq g (pos 1)).0 one)) divisors in
+    let all = divided_by_content (t ∷ ts) poly (λ none. not_nil none) (pos 1) 1 content_one (sym (ap (λ b. negated_if b 1) leads)) in
+    let same = divided_by_one (t ∷ ts) poly all.divides in
+    (sym all.is_primitive ∙ same, leads, subst (λ b. IsMultiple (t ∷ ts) (t ∷ ts) b) leads (subst (λ q. IsMultiple (t ∷ ts) q (leads_negative (t ∷ ts))) same all.is_multiple))
+  where
+    not_nil : t ∷ ts ≡ [] → ⊥
+    not_nil none = absurd (cc)

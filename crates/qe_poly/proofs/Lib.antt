@@ -19,6 +19,7 @@ pub mod Merging
 pub mod Values
 pub mod ProductValues
 pub mod QuadraticValues
+pub mod Occurring
 pub mod RenamedValues
 pub mod RenamedMonomials
 pub mod RenamedTerms

@@ -1,5 +1,5 @@
 -- Merging gives the sum, the difference and their limits.
-use Rattle.std.proofs.Common.{◌≡◌, refl, sym, ap, subst, ◌∙◌, true, false, cond, T, List, [], ◌∷◌, ◌++◌, Option, Some, None, Result, Ok, Err, map, length, ltb, ℤ, pos, neg_ℤ, ◌+ℤ◌, arith}
+use Rattle.std.proofs.Common.{◌≡◌, refl, sym, ap, subst, ◌∙◌, true, false, cond, T, List, [], ◌∷◌, ◌++◌, Option, Some, None, map, length, ltb, ℤ, pos, neg_ℤ, ◌+ℤ◌, arith}
 use Rattle.std.proofs.lemmas.Int.{ints}
 use Rattle.std.proofs.lemmas.List.{length-map}
 use Rattle.std.specs.Ordering.{eq_by_cmp}
@@ -7,13 +7,12 @@ use Rattle.std.specs.FinMap.Entries.{find, is_sorted}
 use Rattle.qe_coef.specs.declared.Op.{Op}
 use Rattle.qe_coef.specs.declared.Op.TheVariants.{Add, Sub, Mul}
 use Rattle.qe_coef.specs.Exact.{exact}
-use Rattle.std.specs.Result.{IsErr, IsErrAnd}
 use Rattle.qe_poly.specs.declared.limit.PolyLimit.{PolyLimit}
-use Rattle.qe_poly.specs.declared.limit.PolyStop.{PolyStop}
 use Rattle.qe_poly.specs.declared.limit.PolyLimit.TheVariants.{Monomials}
 use Rattle.qe_poly.specs.Monomial.{Monomial, in_turn, IsMonomial}
 use Rattle.qe_poly.specs.Polynomial.{Polynomial, Group, IsBelow, IsPolynomial, gathered, coefficient, negative, sum, difference}
-use Rattle.qe_poly.specs.Limits.{first_limit, or_else, limit_if, wide, sum_limit, IsStop, IsAnswer}
+use Rattle.qe_poly.specs.Limits.{first_limit, limit_if, wide, sum_limit}
+use Rattle.qe_halt.specs.Outcome.{or_else}
 use Rattle.qe_poly.specs.declared.term.Term as kept
 use Rattle.qe_poly.specs.Rows.{Row, shown, merged, kept_results, row_limit, merged_limit}
 use Rattle.qe_poly.proofs.Sorted.{Each, Each-append, under_keys, is_sorted-under_keys, Each-under_keys, new_value, find-under_keys}
@@ -132,8 +131,3 @@ combined_is op combination is lent_left left lent_right right p q same_left same
       result_is = (λ i. kept_results op (merged (p_is i) (q_is i))) ∙ is p q p_poly q_poly;
       is_polynomial = subst (λ x. IsPolynomial x) (λ i. kept_results op (merged (sym p_is i) (sym q_is i))) (IsPolynomial-results op p q p_poly q_poly);
     }
-
--- a limit that is handed on by `?`
-pub handed_on : (limit : Option PolyLimit) (combination : Polynomial) (result : Result Polynomial PolyStop) (stop : PolyStop) → IsErr result → IsErrAnd result (λ e. e ≡ stop) → IsStop limit stop → IsAnswer limit combination result
-handed_on limit combination (Ok p) stop failed same is_stop = absurd (cc)
-handed_on limit combination (Err e) stop failed same is_stop = subst (λ s. IsStop limit s) (sym same) is_stop

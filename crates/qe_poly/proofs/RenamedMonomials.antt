@@ -11,7 +11,8 @@ use Rattle.qe_poly.specs.declared.monomial.Var.{Var}
 use Rattle.qe_poly.specs.declared.monomial.Power.{Power}
 use Rattle.qe_poly.specs.Monomial.{Monomial, IsMonomial, IsAbove, is_high, power, times, times_power, monomial_cmp, in_turn}
 use Rattle.qe_poly.specs.Coefficients.{exponent_of, without}
-use Rattle.qe_poly.specs.Renamed.{stands_in, renamed_var, renamed_monomial}
+use Rattle.qe_poly.specs.Renamed.{renamed_var, renamed_monomial}
+use Rattle.qe_poly.specs.Occurs.{occurs_in}
 use Rattle.qe_poly.proofs.Order.{turn_total}
 use Rattle.qe_poly.proofs.Parts.{nat_less, nat_greater, above_lower, is_high-without, without-less, tie_no_way}
 use Rattle.qe_poly.proofs.Products.{IsMonomial-times}
@@ -58,33 +59,33 @@ module _ (y : Var) where
         | Greater ↦ λ order. after (ranked y.0 b.var.0 Greater order)
       ] refl
 
-  exponent_put : (e : ℕ) (m : Monomial) → stands_in y.0 m ≡ false → exponent_of y.0 (put e m) ≡ e
+  exponent_put : (e : ℕ) (m : Monomial) → occurs_in y.0 m ≡ false → exponent_of y.0 (put e m) ≡ e
   exponent_put e [] none = ap (λ b. cond b e 0) (same y.0)
     where
       same : (i : ℕ) → eqb i i ≡ true
       same i = grind (arith, nat_tests)
   exponent_put e (b ∷ m) none =
-      let parts = neither (eqb b.var.0 y.0) (stands_in y.0 m) none in
+      let parts = neither (eqb b.var.0 y.0) (occurs_in y.0 m) none in
       put_cases e b m (λ k. exponent_of y.0 k ≡ e) parts.0 (λ less. ap (λ t. cond t e (exponent_of y.0 (b ∷ m))) (same y.0))
       (λ more. ap (λ t. cond t b.exponent (exponent_of y.0 (put e m))) parts.0 ∙ exponent_put e m parts.1)
     where
       same : (i : ℕ) → eqb i i ≡ true
       same i = grind (arith, nat_tests)
 
-  without_put : (e : ℕ) (m : Monomial) → stands_in y.0 m ≡ false → without y.0 (put e m) ≡ m
+  without_put : (e : ℕ) (m : Monomial) → occurs_in y.0 m ≡ false → without y.0 (put e m) ≡ m
   without_put e [] none = ap (λ b. cond b [] (record { var = y; exponent = e } ∷ [])) (same y.0)
     where
       same : (i : ℕ) → eqb i i ≡ true
       same i = grind (arith, nat_tests)
   without_put e (b ∷ m) none =
-      let parts = neither (eqb b.var.0 y.0) (stands_in y.0 m) none in
+      let parts = neither (eqb b.var.0 y.0) (occurs_in y.0 m) none in
       put_cases e b m (λ k. without y.0 k ≡ b ∷ m) parts.0 (λ less. ap (λ t. cond t (b ∷ m) (record { var = y; exponent = e } ∷ without y.0 (b ∷ m))) (same y.0))
       (λ more. ap (λ t. cond t (put e m) (b ∷ without y.0 (put e m))) parts.0 ∙ ap (λ k. b ∷ k) (without_put e m parts.1))
     where
       same : (i : ℕ) → eqb i i ≡ true
       same i = grind (arith, nat_tests)
 
-  high_put : (e : ℕ) (m : Monomial) → e ≤ 65535 → stands_in y.0 m ≡ false → is_high m ≡ false → is_high (put e m) ≡ false
+  high_put : (e : ℕ) (m : Monomial) → e ≤ 65535 → occurs_in y.0 m ≡ false → is_high m ≡ false → is_high (put e m) ≡ false
   high_put e [] low none plain = small e low
     where
       small : (i : ℕ) → i ≤ 65535 → (ltb 65535 i || false) ≡ false
@@ -93,7 +94,7 @@ module _ (y : Var) where
           test : (i : ℕ) → i ≤ 65535 → ltb 65535 i ≡ false
           test i low = grind (arith, nat_tests)
   high_put e (b ∷ m) low none plain =
-      let parts = neither (eqb b.var.0 y.0) (stands_in y.0 m) none in
+      let parts = neither (eqb b.var.0 y.0) (occurs_in y.0 m) none in
       let highs = neither (ltb 65535 b.exponent) (is_high m) plain in
       put_cases e b m (λ k. is_high k ≡ false) parts.0 (λ less. ap (λ t. t || is_high (b ∷ m)) (test e low) ∙ plain)
       (λ more. ap (λ t. t || is_high (put e m)) highs.0 ∙ high_put e m low parts.1 highs.1)
@@ -103,16 +104,16 @@ module _ (y : Var) where
 
   -- ---- the same of any exponent, zero too
 
-  free_exponent : (m : Monomial) → stands_in y.0 m ≡ false → exponent_of y.0 m ≡ 0
+  free_exponent : (m : Monomial) → occurs_in y.0 m ≡ false → exponent_of y.0 m ≡ 0
   free_exponent [] none = refl
   free_exponent (b ∷ m) none =
-      let parts = neither (eqb b.var.0 y.0) (stands_in y.0 m) none in
+      let parts = neither (eqb b.var.0 y.0) (occurs_in y.0 m) none in
       ap (λ t. cond t b.exponent (exponent_of y.0 m)) parts.0 ∙ free_exponent m parts.1
 
-  free_without : (m : Monomial) → stands_in y.0 m ≡ false → without y.0 m ≡ m
+  free_without : (m : Monomial) → occurs_in y.0 m ≡ false → without y.0 m ≡ m
   free_without [] none = refl
   free_without (b ∷ m) none =
-      let parts = neither (eqb b.var.0 y.0) (stands_in y.0 m) none in
+      let parts = neither (eqb b.var.0 y.0) (occurs_in y.0 m) none in
       ap (λ t. cond t m (b ∷ without y.0 m)) parts.0 ∙ ap (λ k. b ∷ k) (free_without m parts.1)
 
   is_zero : (e : ℕ) → eqb e 0 ≡ true → 0 ≡ e
@@ -122,13 +123,13 @@ module _ (y : Var) where
   by_exponent : (e : ℕ) (m : Monomial) (P : Monomial → Type 0) → (0 ≡ e → P m) → P (put e m) → P (times (power y e) m)
   by_exponent e m P zero more = elim (eqb e 0) as (λ b. eqb e 0 ≡ b → P (times (cond b [] (record { var = y; exponent = e } ∷ [])) m)) [ true ↦ λ test. zero (is_zero e test) | false ↦ λ test. more ] refl
 
-  pub exponent_times : (e : ℕ) (m : Monomial) → stands_in y.0 m ≡ false → exponent_of y.0 (times (power y e) m) ≡ e
+  pub exponent_times : (e : ℕ) (m : Monomial) → occurs_in y.0 m ≡ false → exponent_of y.0 (times (power y e) m) ≡ e
   exponent_times e m none = by_exponent e m (λ k. exponent_of y.0 k ≡ e) (λ zero. free_exponent m none ∙ zero) (exponent_put e m none)
 
-  pub without_times : (e : ℕ) (m : Monomial) → stands_in y.0 m ≡ false → without y.0 (times (power y e) m) ≡ m
+  pub without_times : (e : ℕ) (m : Monomial) → occurs_in y.0 m ≡ false → without y.0 (times (power y e) m) ≡ m
   without_times e m none = by_exponent e m (λ k. without y.0 k ≡ m) (λ zero. free_without m none) (without_put e m none)
 
-  high_times : (e : ℕ) (m : Monomial) → e ≤ 65535 → stands_in y.0 m ≡ false → is_high m ≡ false → is_high (times (power y e) m) ≡ false
+  high_times : (e : ℕ) (m : Monomial) → e ≤ 65535 → occurs_in y.0 m ≡ false → is_high m ≡ false → is_high (times (power y e) m) ≡ false
   high_times e m low none plain = by_exponent e m (λ k. is_high k ≡ false) (λ zero. plain) (high_put e m low none plain)
 
 -- ---- y in the place of x
@@ -136,11 +137,11 @@ module _ (y : Var) where
 both_fail : (s t : Bool) → s ≡ false → t ≡ false → (s || t) ≡ false
 both_fail s t p q = λ i. p i || q i
 
-stands_without : (x y : ℕ) (m : Monomial) → stands_in y m ≡ false → stands_in y (without x m) ≡ false
+stands_without : (x y : ℕ) (m : Monomial) → occurs_in y m ≡ false → occurs_in y (without x m) ≡ false
 stands_without x y [] none = refl
 stands_without x y (a ∷ m) none =
-    let parts = neither (eqb a.var.0 y) (stands_in y m) none in
-    elim (eqb a.var.0 x) as (λ b. stands_in y (cond b m (a ∷ without x m)) ≡ false) [ true ↦ parts.1 | false ↦ both_fail (eqb a.var.0 y) (stands_in y (without x m)) parts.0 (stands_without x y m parts.1) ]
+    let parts = neither (eqb a.var.0 y) (occurs_in y m) none in
+    elim (eqb a.var.0 x) as (λ b. occurs_in y (cond b m (a ∷ without x m)) ≡ false) [ true ↦ parts.1 | false ↦ both_fail (eqb a.var.0 y) (occurs_in y (without x m)) parts.0 (stands_without x y m parts.1) ]
 
 above_without : (z x : ℕ) (m : Monomial) → IsMonomial m → IsAbove z m → IsAbove z (without x m)
 above_without z x [] monomial above = tt
@@ -176,12 +177,12 @@ module _ (x y : Var) where
       by_zero false test =
           put_cases y e a m (λ k. times (power a.var a.exponent) (put y e m) ≡ k) apart before_y (λ less. first (put y e m) (above_put y a.var.0 e m less above))
 
-  pub renamed_is : (m : Monomial) → IsMonomial m → stands_in y.0 m ≡ false → times (power y (exponent_of x.0 m)) (without x.0 m) ≡ renamed_monomial x y m
+  pub renamed_is : (m : Monomial) → IsMonomial m → occurs_in y.0 m ≡ false → times (power y (exponent_of x.0 m)) (without x.0 m) ≡ renamed_monomial x y m
   renamed_is [] monomial none = refl
   renamed_is (a ∷ m) monomial none = by_test (λ h. renamed_is m monomial.2 h) (eqb a.var.0 x.0) refl
     where
-      parts : (eqb a.var.0 y.0 ≡ false) × (stands_in y.0 m ≡ false)
-      parts = neither (eqb a.var.0 y.0) (stands_in y.0 m) none
+      parts : (eqb a.var.0 y.0 ≡ false) × (occurs_in y.0 m ≡ false)
+      parts = neither (eqb a.var.0 y.0) (occurs_in y.0 m) none
 
       turned : (b : Bool) → eqb a.var.0 x.0 ≡ b → eqb x.0 a.var.0 ≡ b
       turned true same = (let e = eqb-true a.var.0 x.0 same in itself x.0 a.var.0 (sym e))
@@ -190,7 +191,7 @@ module _ (x y : Var) where
           itself i j e = grind (arith, nat_tests)
       turned false apart = apart_back a.var.0 x.0 apart
 
-      by_test : (stands_in y.0 m ≡ false → times (power y (exponent_of x.0 m)) (without x.0 m) ≡ renamed_monomial x y m) → (b : Bool) → eqb a.var.0 x.0 ≡ b
+      by_test : (occurs_in y.0 m ≡ false → times (power y (exponent_of x.0 m)) (without x.0 m) ≡ renamed_monomial x y m) → (b : Bool) → eqb a.var.0 x.0 ≡ b
           → times (power y (cond b a.exponent (exponent_of x.0 m))) (cond b m (a ∷ without x.0 m)) ≡ times (power (cond (eqb x.0 a.var.0) y a.var) a.exponent) (renamed_monomial x y m)
       by_test again true same =
           ap (times (power y a.exponent)) (sym (unchanged m monomial.2 (subst (λ i. IsAbove i m) (eqb-true a.var.0 x.0 same) monomial.1)))
@@ -210,7 +211,7 @@ module _ (x y : Var) where
       small : (i : ℕ) → ltb 65535 i ≡ false → i ≤ 65535
       small i test = grind (arith, nat_tests)
 
-  pub renamed_low : (m : Monomial) → is_high m ≡ false → stands_in y.0 m ≡ false → is_high (times (power y (exponent_of x.0 m)) (without x.0 m)) ≡ false
+  pub renamed_low : (m : Monomial) → is_high m ≡ false → occurs_in y.0 m ≡ false → is_high (times (power y (exponent_of x.0 m)) (without x.0 m)) ≡ false
   renamed_low m low none = high_times y (exponent_of x.0 m) (without x.0 m) (exponent_low m low) (stands_without x.0 y.0 m none) (is_high-without x.0 m low)
 
   IsMonomial-power : (v : Var) (e : ℕ) → IsMonomial (power v e)
@@ -224,7 +225,7 @@ module _ (x y : Var) where
   IsMonomial-renamed (a ∷ m) = IsMonomial-times (power (renamed_var x y a.var) a.exponent) (renamed_monomial x y m) (IsMonomial-power (renamed_var x y a.var) a.exponent) (IsMonomial-renamed m)
 
   -- different monomials stay different
-  pub renamed_apart : (m k : Monomial) → IsMonomial m → IsMonomial k → stands_in y.0 m ≡ false → stands_in y.0 k ≡ false → in_turn m k ≡ Less → renamed_monomial x y m ≡ renamed_monomial x y k → ⊥
+  pub renamed_apart : (m k : Monomial) → IsMonomial m → IsMonomial k → occurs_in y.0 m ≡ false → occurs_in y.0 k ≡ false → in_turn m k ≡ Less → renamed_monomial x y m ≡ renamed_monomial x y k → ⊥
   renamed_apart m k left right none nil less same =
       let put_same : times (power y (exponent_of x.0 m)) (without x.0 m) ≡ times (power y (exponent_of x.0 k)) (without x.0 k) = renamed_is m left none ∙ (same ∙ sym (renamed_is k right nil)) in
       let free_m = stands_without x.0 y.0 m none in
@@ -235,15 +236,15 @@ module _ (x y : Var) where
 
   -- ---- in the code: p is the power of y and k the rest
 
-  pub exponent_low_from : (inside m : Monomial) (e : ℕ) → inside ≡ m → is_high inside ≡ false → e ≡ exponent_of x.0 m → e ≤ 65535
-  exponent_low_from inside m e view low exponent = (let h = exponent_low m (subst (λ n. is_high n ≡ false) view low) in omega (arith, exponent))
+  pub exponent_low_from : (m : Monomial) (e : ℕ) → is_high m ≡ false → e ≡ exponent_of x.0 m → e ≤ 65535
+  exponent_low_from m e low exponent = (let h = exponent_low m low in omega (arith, exponent))
 
-  module _ (inside m p k : Monomial) (e : ℕ) (view : inside ≡ m) (monomial : IsMonomial inside) (low : is_high inside ≡ false) (exponent : e ≡ exponent_of x.0 m) (power_is : p ≡ power y e) (rest : k ≡ without x.0 m) (none : stands_in y.0 m ≡ false) where
+  module _ (m p k : Monomial) (e : ℕ) (monomial : IsMonomial m) (low : is_high m ≡ false) (exponent : e ≡ exponent_of x.0 m) (power_is : p ≡ power y e) (rest : k ≡ without x.0 m) (none : occurs_in y.0 m ≡ false) where
     product_is : times p k ≡ times (power y (exponent_of x.0 m)) (without x.0 m)
     product_is = λ i. times ((power_is ∙ ap (power y) exponent) i) (rest i)
 
     pub never_high : is_high (times p k) ≡ true → ⊥
-    never_high high = no_test high (ap is_high product_is ∙ renamed_low m (subst (λ n. is_high n ≡ false) view low) none)
+    never_high high = no_test high (ap is_high product_is ∙ renamed_low m low none)
 
     pub made_is : times p k ≡ renamed_monomial x y m
-    made_is = product_is ∙ renamed_is m (subst (λ n. IsMonomial n) view monomial) none
+    made_is = product_is ∙ renamed_is m monomial none

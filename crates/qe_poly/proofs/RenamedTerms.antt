@@ -18,7 +18,8 @@ use Rattle.qe_poly.specs.Monomial.{Monomial, IsMonomial, in_turn}
 use Rattle.qe_poly.specs.Polynomial.{Term, Polynomial, IsPolynomial, coefficient}
 use Rattle.qe_poly.specs.Order.{term_cmp}
 use Rattle.qe_poly.specs.Rows.{shown}
-use Rattle.qe_poly.specs.Renamed.{stands_in, stands_in_some, renamed_monomial, with_renamed_terms, renamed}
+use Rattle.qe_poly.specs.Renamed.{renamed_monomial, with_renamed_terms, renamed}
+use Rattle.qe_poly.specs.Occurs.{occurs_in, occurs_in_some}
 use Rattle.qe_poly.proofs.Order.{turn_total, turn_same}
 use Rattle.qe_poly.proofs.Sorted.{Each, tied, less_back, below_first, below_rest, sorted_first}
 use Rattle.qe_poly.proofs.Canonical.{sorted_from, IsPolynomial-collected, coefficient-collected, same_polynomial}
@@ -157,11 +158,11 @@ module _ (x y : Var) where
   good_made (t ∷ ts) canonical = ((canonical.0, IsMonomial-renamed x y t.0), good_made ts canonical.3)
 
   -- no later term has the monomial of a term
-  none_there : (t : Term) (ts : Polynomial) → IsMonomial t.0 → stands_in y.0 t.0 ≡ false → Each (λ u. IsMonomial u.0) ts → stands_in_some y.0 ts ≡ false → T (below_all in_turn t.0 ts)
+  none_there : (t : Term) (ts : Polynomial) → IsMonomial t.0 → occurs_in y.0 t.0 ≡ false → Each (λ u. IsMonomial u.0) ts → occurs_in_some y.0 ts ≡ false → T (below_all in_turn t.0 ts)
       → (m : Monomial) → m ≡ renamed_monomial x y t.0 → times_there m (map made ts) ≡ 0
   none_there t [] monomial none each nil below m is = refl
   none_there t (u ∷ us) monomial none each nil below m is =
-      let halves = neither (stands_in y.0 u.0) (stands_in_some y.0 us) nil in
+      let halves = neither (occurs_in y.0 u.0) (occurs_in_some y.0 us) nil in
       let rest = none_there t us monomial none each.1 halves.1 (below_rest t.0 u us below) m is in
       let first : tie m (made u) ≡ 0 = apart (eq_by_cmp in_turn m (renamed_monomial x y u.0)) refl
       (λ same. renamed_apart x y t.0 u.0 monomial each.0 none halves.0 (below_first t.0 u us below) (sym is ∙ same)) in
@@ -171,12 +172,12 @@ module _ (x y : Var) where
       apart true test other = absurd (other (tied m (renamed_monomial x y u.0) test))
       apart false test other = refl
 
-  once_there : (p : Polynomial) → IsPolynomial p → Each (λ u. IsMonomial u.0) p → stands_in_some y.0 p ≡ false → (m : Monomial) → times_there m (map made p) ≤ 1
+  once_there : (p : Polynomial) → IsPolynomial p → Each (λ u. IsMonomial u.0) p → occurs_in_some y.0 p ≡ false → (m : Monomial) → times_there m (map made p) ≤ 1
   once_there [] canonical each none m = omega arith
   once_there (t ∷ ts) canonical each none m = by_test (once_there ts canonical.3 each.1 halves.1 m) (eq_by_cmp in_turn m (renamed_monomial x y t.0)) refl
     where
-      halves : (stands_in y.0 t.0 ≡ false) × (stands_in_some y.0 ts ≡ false)
-      halves = neither (stands_in y.0 t.0) (stands_in_some y.0 ts) none
+      halves : (occurs_in y.0 t.0 ≡ false) × (occurs_in_some y.0 ts ≡ false)
+      halves = neither (occurs_in y.0 t.0) (occurs_in_some y.0 ts) none
 
       by_test : times_there m (map made ts) ≤ 1 → (b : Bool) → eq_by_cmp in_turn m (renamed_monomial x y t.0) ≡ b → cond b 1 0 + times_there m (map made ts) ≤ 1
       by_test rest true test =
@@ -192,7 +193,7 @@ module _ (x y : Var) where
   canonical_each [] canonical = tt
   canonical_each (t ∷ ts) canonical = (canonical.1, canonical_each ts canonical.3)
 
-  module _ (p : Polynomial) (canonical : IsPolynomial p) (none : stands_in_some y.0 p ≡ false) (old new : List kept.Term) (are : map shown old ≡ map made p)
+  module _ (p : Polynomial) (canonical : IsPolynomial p) (none : occurs_in_some y.0 p ≡ false) (old new : List kept.Term) (are : map shown old ≡ map made p)
       (moved : IsPermutation old new) (sorted : IsSorted (λ t u. term_cmp (shown t) (shown u)) new) where
     good_new : Each IsGood (map shown new)
     good_new = from_all new (All-permutation (λ (t : kept.Term). IsGood (shown t)) old new moved (to_all old (subst (λ ts. Each IsGood ts) (sym are) (good_made p canonical))))
@@ -204,5 +205,5 @@ module _ (x y : Var) where
     sorted_is = same_polynomial (map shown new) (with_renamed_terms x y p) sorted_canonical (IsPolynomial-collected (map made p) (each_monomial (map made p) (good_made p canonical)))
         (λ m. coefficient_moved m old new moved ∙ (ap (λ ts. coefficient ts m) are ∙ sym (coefficient-collected (map made p) m)))
 
-    pub sorted_renamed : stands_in_some x.0 p ≡ true → map shown new ≡ renamed x y p
+    pub sorted_renamed : occurs_in_some x.0 p ≡ true → map shown new ≡ renamed x y p
     sorted_renamed some = sorted_is ∙ (λ i. cond (sym some i && not (sym none i)) (with_renamed_terms x y p) p)

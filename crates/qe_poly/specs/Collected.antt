@@ -7,7 +7,8 @@ use Rattle.qe_poly.specs.declared.limit.PolyLimit.{PolyLimit}
 use Rattle.qe_poly.specs.declared.limit.PolyLimit.TheVariants.{Coefficient, Exponent, Monomials}
 use Rattle.qe_poly.specs.Monomial.{Monomial, times, is_high}
 use Rattle.qe_poly.specs.Polynomial.{Term, Polynomial, pairs, pair_product, products, nonzero}
-use Rattle.qe_poly.specs.Limits.{first_limit, limit_if, or_else, wide}
+use Rattle.qe_poly.specs.Limits.{first_limit, limit_if, wide}
+use Rattle.qe_halt.specs.Outcome.{or_else}
 use Rattle.qe_poly.specs.Tally.{Tally, leaves_range, enter_tally}
 
 -- the products of one term with the terms of a polynomial

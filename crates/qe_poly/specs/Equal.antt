@@ -1,12 +1,13 @@
 -- Equality of monomials and of polynomials as tests, and what they feed a hasher.
-use Rattle.std.specs.Prelude.{List, [], ◌∷◌, ◌++◌, Bool, true, false, ◌&&◌, ◌≡◌, eqb, refl}
-use Rattle.std.proofs.Common.{ap, sym, subst, T}
+use Rattle.std.specs.Prelude.{List, [], ◌∷◌, ◌++◌, Bool, true, ◌≡◌, eqb, refl}
+use Rattle.std.proofs.Common.{ap}
 use Rattle.std.proofs.lemmas.Bool.{eqb-true}
 use Rattle.std.proofs.lemmas.Bool.Decides.{Decides-int_eq}
 use Rattle.std.specs.Hash as fed
 use Rattle.std.specs.Ordering.{on, eq_of_both, int_eq}
 use Rattle.std.specs.Cmp.{IsEquivalence, on_equiv, and_equiv}
 use Rattle.std.proofs.lemmas.Cmp.{lists_equiv, nat_eq_equiv, int_eq_equiv}
+use Rattle.qe_ring.proofs.Bools.{no_way, both_hold}
 use Rattle.qe_poly.specs.declared.monomial.Power.{Power}
 use Rattle.qe_poly.specs.Monomial.{Monomial}
 use Rattle.qe_poly.specs.Polynomial.{Term, Polynomial}
@@ -38,24 +39,17 @@ poly_eq_equiv = lists_equiv (and_equiv (on_equiv (λ t. t.0) monomial_eq_equiv) 
 
 -- ---- they tell equality
 
-no_way : {A : Type 0} → false ≡ true → A
-no_way holds = absurd (subst T (sym holds) tt)
-
-both : (a b : Bool) → (a && b) ≡ true → (a ≡ true) × (b ≡ true)
-both true b holds = (refl, holds)
-both false b holds = no_way holds
-
 -- lists that a test finds equal item by item are equal, where it tells equal items
 pointwise_tells : {X : Type 0} (test : X → X → Bool) → ((x y : X) → test x y ≡ true → x ≡ y) → (xs ys : List X) → pointwise test xs ys ≡ true → xs ≡ ys
 pointwise_tells test tells [] [] holds = refl
 pointwise_tells test tells [] (y ∷ ys) holds = no_way holds
 pointwise_tells test tells (x ∷ xs) [] holds = no_way holds
 pointwise_tells test tells (x ∷ xs) (y ∷ ys) holds =
-    let parts = both (test x y) (pointwise test xs ys) holds in λ i. tells x y parts.0 i ∷ pointwise_tells test tells xs ys parts.1 i
+    let parts = both_hold (test x y) (pointwise test xs ys) holds in λ i. tells x y parts.0 i ∷ pointwise_tells test tells xs ys parts.1 i
 
 power_tells : (a b : Power) → power_eq a b ≡ true → a ≡ b
 power_tells a b holds =
-    let parts = both (eqb a.var.0 b.var.0) (eqb a.exponent b.exponent) holds in
+    let parts = both_hold (eqb a.var.0 b.var.0) (eqb a.exponent b.exponent) holds in
     λ i. record { var = record { 0 = eqb-true a.var.0 b.var.0 parts.0 i }; exponent = eqb-true a.exponent b.exponent parts.1 i }
 
 pub monomial_tells : (m n : Monomial) → monomial_eq m n ≡ true → m ≡ n
@@ -63,7 +57,7 @@ monomial_tells = pointwise_tells power_eq power_tells
 
 term_tells : (t u : Term) → term_eq t u ≡ true → t ≡ u
 term_tells t u holds =
-    let parts = both (monomial_eq t.0 u.0) (int_eq t.1 u.1) holds in
+    let parts = both_hold (monomial_eq t.0 u.0) (int_eq t.1 u.1) holds in
     λ i. (monomial_tells t.0 u.0 parts.0 i, (Decides-int_eq t.1 u.1).0 parts.1 i)
 
 pub poly_tells : (p q : Polynomial) → poly_eq p q ≡ true → p ≡ q

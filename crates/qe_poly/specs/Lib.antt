@@ -9,4 +9,6 @@ pub mod Collected
 pub mod Primitive
 pub mod Equal
 pub mod Order
+pub mod Numbers
+pub mod Occurs
 pub mod Renamed

@@ -1,21 +1,15 @@
 -- Which limit an operation meets, on polynomials without bounds.
-use Rattle.std.specs.Prelude.{ℕ, ℤ, pos, ◌+◌, ◌-◌, ◌^◌, unsigned_abs, List, [], ◌∷◌, ◌++◌, Bool, cond, ltb, length, Option, Some, None, Result, Ok, Err, ◌≡◌}
+use Rattle.std.specs.Prelude.{ℕ, ℤ, pos, ◌+◌, ◌-◌, ◌^◌, unsigned_abs, List, [], ◌∷◌, ◌++◌, Bool, cond, ltb, length, Option, Some, None}
 use Rattle.std.specs.List.{list_any}
+use Rattle.qe_halt.specs.Outcome.{or_else}
 use Rattle.qe_coef.specs.declared.Op.{Op}
 use Rattle.qe_coef.specs.declared.Op.TheVariants.{Add, Mul}
 use Rattle.qe_coef.specs.Exact.{exact}
 use Rattle.qe_poly.specs.declared.limit.PolyLimit.{PolyLimit}
 use Rattle.qe_poly.specs.declared.limit.PolyLimit.TheVariants.{Coefficient, Exponent, Monomials}
-use Rattle.qe_poly.specs.declared.limit.PolyStop.{PolyStop}
-use Rattle.qe_poly.specs.declared.limit.PolyStop.TheVariants.{Limit, OutOfMemory}
 use Rattle.qe_poly.specs.Monomial.{is_high}
 use Rattle.qe_poly.specs.Coefficients.{exponent_of}
 use Rattle.qe_poly.specs.Polynomial.{Polynomial, gathered, coefficient, pairs, products}
-
--- the first limit, and where there is none the second
-abbrev pub or_else : Option PolyLimit → Option PolyLimit → Option PolyLimit
-or_else (Some limit) rest = Some limit
-or_else None rest = rest
 
 -- the limit that the first item with a limit gives
 abbrev pub first_limit : {A : Type 0} → (A → Option PolyLimit) → List A → Option PolyLimit
@@ -59,13 +53,3 @@ scale_limit c p = first_limit (λ t. wide Mul t.1 c) p
 -- the limit at the greatest monomial whose coefficient times the exponent of the variable leaves the range
 abbrev pub derivative_limit : ℕ → Polynomial → Option PolyLimit
 derivative_limit x p = first_limit (λ t. wide Mul t.1 (pos (exponent_of x t.0))) p
-
--- the stop is that limit, or want of memory
-abbrev pub IsStop : Option PolyLimit → PolyStop → Type 0
-IsStop limit (Limit met) = limit ≡ Some met
-IsStop limit OutOfMemory = Unit {0}
-
--- the limit where there is one, and else the exact result; want of memory may come in place of either
-abbrev pub IsAnswer : Option PolyLimit → Polynomial → Result Polynomial PolyStop → Type 0
-IsAnswer limit exact (Ok p) = (limit ≡ None) × (p ≡ exact)
-IsAnswer limit exact (Err stop) = IsStop limit stop

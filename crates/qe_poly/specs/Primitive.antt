@@ -52,3 +52,7 @@ DividesEach d (t ∷ ts) = (d ∣ unsigned_abs t.1) × DividesEach d ts
 -- the divisors of g are the numbers that divide each coefficient
 abbrev pub IsContent : ℕ → Polynomial → Type 0
 IsContent g p = (d : ℕ) → (d ∣ g) ↔ DividesEach d p
+
+-- it is its own primitive polynomial
+abbrev pub IsOwnPrimitive : Polynomial → Type 0
+IsOwnPrimitive p = (primitive p ≡ p) × (leads_negative p ≡ false) × IsMultiple p p false

@@ -5,6 +5,7 @@
 mod limit;
 mod monomial;
 mod multiple;
+mod occurrence;
 mod part;
 mod poly;
 mod primitive;

@@ -1,7 +1,7 @@
 //! Why an operation on polynomials gives none.
 
 use qe_coef::Wide;
-use std::alloc::{AllocError, AllocFailed};
+use qe_halt::Halt;
 
 /// The most monomials that a sum, a difference or a product may have before zeros are left out.
 pub const MOST_MONOMIALS: usize = 4096;
@@ -17,31 +17,5 @@ pub enum PolyLimit {
     Monomials,
 }
 
-/// A limit, or the want of memory.
-#[derive(Clone, Copy, Debug, PartialEq, Eq)]
-pub enum PolyStop {
-    Limit(PolyLimit),
-    OutOfMemory,
-}
-
-impl From<AllocError> for PolyStop {
-    ghost use Rattle.std.specs.Prelude.{◌≡◌};
-    ghost use Rattle.qe_poly.specs.declared.limit.PolyStop.{PolyStop};
-
-    ghost from_gives = { λ _ e. e ≡ PolyStop.OutOfMemory };
-
-    fn from(_error: AllocError) -> PolyStop {
-        PolyStop::OutOfMemory
-    }
-}
-
-impl<T: Drop> From<AllocFailed<T>> for PolyStop {
-    ghost use Rattle.std.specs.Prelude.{◌≡◌};
-    ghost use Rattle.qe_poly.specs.declared.limit.PolyStop.{PolyStop};
-
-    ghost from_gives = { λ _ e. e ≡ PolyStop.OutOfMemory };
-
-    fn from(_error: AllocFailed<T>) -> PolyStop {
-        PolyStop::OutOfMemory
-    }
-}
+/// Why an operation gives no polynomial.
+pub type PolyStop = Halt<PolyLimit>;

@@ -5,9 +5,10 @@ ghost use Rattle.std.proofs.Common.{rules};
 ghost use Rattle.std.specs.Ordering.{as_partial_cmp};
 ghost use Rattle.std.specs.Cmp.{partial_equiv_from_equiv, partial_order_from_own_ties};
 ghost use Rattle.std.specs.Cmp.Rules.{comparing};
-ghost use Rattle.qe_poly.specs.Monomial.{monomial_cmp, power, power_cmp, times, is_high};
+ghost use Rattle.qe_poly.specs.Monomial.{monomial_cmp, power, power_cmp, times, is_high, IsMonomial};
 ghost use Rattle.qe_poly.specs.Coefficients.{exponent_of, without, lowered};
-ghost use Rattle.qe_poly.specs.Renamed.{stands_in, renamed_monomial};
+ghost use Rattle.qe_poly.specs.Renamed.{renamed_monomial};
+ghost use Rattle.qe_poly.specs.Occurs.{occurs_in};
 ghost use Rattle.qe_poly.specs.Equal.{monomial_eq, monomial_eq_equiv, monomial_fed, monomial_fed_alike};
 
 use std::alloc::{AllocError, Global};
@@ -231,9 +232,10 @@ impl Monomial {
         Ok(Monomial { powers })
     }
 
-    /// The exponent of a variable, 0 where it does not occur.
+    /// The exponent of a variable, 0 where it does not occur. The clause `canonical` tells what the type keeps.
     pub fn exponent_of(&self, var: Var) -> u32
-        ensures { result ≡ exponent_of var.0 self.now }
+        ensures exponent { result ≡ exponent_of var.0 self.now }
+        ensures canonical { IsMonomial self.now × (is_high self.now ≡ false) }
     {
         for power in &self.powers {
             if power.var == var {
@@ -259,12 +261,11 @@ impl Monomial {
         Ok(Monomial { powers })
     }
 
-    /// The monomial with the variable `to`, which does not stand in it, in the place of `from`.
+    /// The monomial with the variable `to`, which does not occur in it, in the place of `from`.
     pub fn renamed(&self, alloc: Global, from: Var, to: Var) -> Result<Monomial, AllocError>
-        requires { stands_in to.0 self.now ≡ false }
+        requires { occurs_in to.0 self.now ≡ false }
         ensures { IfOk result (λ m. m ≡ renamed_monomial from to self.now) }
     {
-        let _ = &self.powers;
         let power = Monomial::power(alloc, to, self.exponent_of(from))?;
         match power.times(alloc, &self.without(alloc, from)?)? {
             Some(monomial) => Ok(monomial),

@@ -3,12 +3,13 @@
 ghost use Rattle.std.specs.Prelude.{◌≡◌, pos, map, MatchResult};
 ghost use Rattle.qe_poly.specs.Value.{scaled};
 ghost use Rattle.qe_poly.specs.Coefficients.{derivative};
-ghost use Rattle.qe_poly.specs.Limits.{IsStop, scale_limit, derivative_limit};
+ghost use Rattle.qe_poly.specs.Limits.{scale_limit, derivative_limit};
+ghost use Rattle.qe_halt.specs.Outcome.{IsStop};
 ghost use Rattle.qe_poly.specs.Rows.{shown};
 
 use crate::limit::{PolyLimit, PolyStop};
 use crate::monomial::Var;
-use crate::term::{Term, is_zero};
+use crate::term::Term;
 use qe_coef::Coef;
 use std::alloc::Global;
 
@@ -23,7 +24,7 @@ pub fn multiple(alloc: Global, terms: &[Term], by: Coef) -> Result<Vec<Term>, Po
     for term in terms {
         match term.coef.mul(by) {
             Ok(coef) => {
-                if !is_zero(coef) {
+                if !coef.is_zero() {
                     products.push(Term {
                         monomial: term.monomial.copy(alloc)?,
                         coef,
@@ -36,13 +37,6 @@ pub fn multiple(alloc: Global, terms: &[Term], by: Coef) -> Result<Vec<Term>, Po
     Ok(products)
 }
 
-/// The coefficient that is an exponent.
-fn factor(exponent: u32) -> Coef
-    ensures { result ≡ pos exponent }
-{
-    Coef::of(i128::from(exponent)).unwrap_or(Coef::zero())
-}
-
 /// The derivative by a variable, or the first product of a coefficient and an exponent that is too wide.
 pub fn derivative(alloc: Global, terms: &[Term], var: Var) -> Result<Vec<Term>, PolyStop>
     ensures { let limit = derivative_limit var.0 (map shown terms.now) in
@@ -52,9 +46,12 @@ pub fn derivative(alloc: Global, terms: &[Term], var: Var) -> Result<Vec<Term>, 
 {
     let mut products = Vec::new(alloc);
     for term in terms {
-        match term.coef.mul(factor(term.monomial.exponent_of(var))) {
+        match term
+            .coef
+            .mul(Coef::small(i64::from(term.monomial.exponent_of(var))))
+        {
             Ok(coef) => {
-                if !is_zero(coef) {
+                if !coef.is_zero() {
                     products.push(Term {
                         monomial: term.monomial.lowered(alloc, var)?,
                         coef,

@@ -1,24 +1,28 @@
 //! Polynomials and their operations.
 
-ghost use Rattle.std.specs.Prelude.{ℤ, pos, refl, Some, ◌≡◌, ◌≢◌, ◌≤◌, ◌∷◌, [], IfOk, IfSome, IfNone, map};
+ghost use Rattle.std.specs.Prelude.{ℤ, pos, refl, Some, ◌≡◌, ◌≢◌, ◌≤◌, ◌∷◌, ◌↔◌, [], IfOk, IfSome, IfNone, IsTrue, map};
 ghost use Rattle.qe_poly.specs.Rows.{shown};
 ghost use Rattle.std.specs.Cmp.{partial_equiv_from_equiv, po};
 ghost use Rattle.qe_poly.specs.Polynomial as spec;
+ghost use Rattle.qe_poly.specs.Numbers.{is_zero, is_negative};
 ghost use Rattle.qe_poly.specs.Coefficients.{degree_in, coefficient_in, derivative};
 ghost use Rattle.qe_poly.specs.Value.{scaled};
-ghost use Rattle.qe_poly.specs.Limits.{IsAnswer, sum_limit, product_limit, scale_limit, derivative_limit};
+ghost use Rattle.qe_poly.specs.Limits.{sum_limit, product_limit, scale_limit, derivative_limit};
+ghost use Rattle.qe_halt.specs.Outcome.{IsAnswer};
 ghost use Rattle.qe_poly.specs.Primitive.{primitive, leads_negative, IsMultiple};
 ghost use Rattle.qe_poly.specs.Equal.{poly_eq, poly_eq_equiv, poly_fed, poly_fed_alike};
-ghost use Rattle.qe_poly.specs.Renamed.{stands_in_some, renamed};
+ghost use Rattle.qe_poly.specs.Renamed.{renamed};
+ghost use Rattle.qe_poly.specs.Occurs.{occurs_in_some, OccursInSome};
 ghost use Rattle.qe_poly.specs.Order.{poly_cmp, poly_total, poly_ties};
 
 use crate::limit::PolyStop;
 use crate::monomial::{Monomial, Var};
 use crate::multiple::{derivative, multiple};
+use crate::occurrence::occurs_in_some;
 use crate::part::part;
-use crate::primitive::{content, leads_negative, negated_if, quotients};
+use crate::primitive::{content, is_primitive, leads_negative, negated_if, quotients};
 use crate::product::multiply;
-use crate::rename::{renamed_terms, stands_in_some};
+use crate::rename::renamed_terms;
 use crate::sum::combine;
 use crate::term::Term;
 use qe_coef::{Coef, Op};
@@ -26,13 +30,6 @@ use std::alloc::{AllocError, Global};
 use std::cmp::Ordering;
 use std::hash::{Hash, Hasher};
 use std::marker::Model;
-
-/// The coefficient 1.
-fn one() -> Coef
-    ensures { result ≡ pos 1 }
-{
-    Coef::of(1).unwrap_or(Coef::zero())
-}
 
 /// A polynomial, as the list of its terms from the greatest monomial to the least, with no coefficient 0.
 /// So polynomials are equal where their terms are.
@@ -59,7 +56,7 @@ impl Poly {
         ensures { IfOk result (λ p. p ≡ spec.constant value) }
     {
         let mut terms = Vec::new(alloc);
-        if value.value() != 0 {
+        if !value.is_zero() {
             terms.push(Term {
                 monomial: Monomial::one(alloc),
                 coef: value,
@@ -76,7 +73,7 @@ impl Poly {
         let mut terms = Vec::new(alloc);
         terms.push(Term {
             monomial: Monomial::power(alloc, var, exponent)?,
-            coef: one(),
+            coef: Coef::small(1),
         })?;
         Ok(Poly { terms })
     }
@@ -148,6 +145,17 @@ impl Poly {
         Ok((Poly { terms }, is_negative))
     }
 
+    /// The same of a polynomial that is no longer needed: one that is primitive already is handed back.
+    pub fn into_primitive(self, alloc: Global) -> Result<(Poly, bool), AllocError>
+        ensures exact { IfOk result (λ r. (r.0 ≡ primitive self) × (r.1 ≡ leads_negative self)) }
+        ensures multiple { IfOk result (λ r. IsMultiple self r.0 r.1) }
+    {
+        if is_primitive(&self.terms) {
+            return Ok((self, false));
+        }
+        self.primitive(alloc)
+    }
+
     /// The derivative by a variable. The limit is `Coefficient` at the greatest monomial whose coefficient times the
     /// exponent of the variable is out of range, with the coefficient and the exponent.
     pub fn derivative(&self, alloc: Global, var: Var) -> Result<Poly, PolyStop>
@@ -206,19 +214,21 @@ impl Poly {
         Ok([square, linear, free])
     }
 
-    /// Whether the variable stands in it.
+    /// Whether the variable occurs in it.
+    #[tactic(auto, using(crate::proofs::Occurring::occurs_in_some_is))]
     pub fn has(&self, var: Var) -> bool
-        ensures { result ≡ stands_in_some var.0 self.now }
+        ensures exact { result ≡ occurs_in_some var.0 self.now }
+        ensures occurs { IsTrue result ↔ OccursInSome var.0 self.now }
     {
-        stands_in_some(&self.terms, var)
+        occurs_in_some(&self.terms, var)
     }
 
-    /// The polynomial with the variable `to` in the place of `from`, where `from` stands in it and `to` does not. Any other
+    /// The polynomial with the variable `to` in the place of `from`, where `from` occurs in it and `to` does not. Any other
     /// polynomial stays as it is.
     pub fn renamed(&self, alloc: Global, from: Var, to: Var) -> Result<Poly, AllocError>
         ensures { IfOk result (λ p. p ≡ renamed from to self.now) }
     {
-        if !stands_in_some(&self.terms, from) || stands_in_some(&self.terms, to) {
+        if !occurs_in_some(&self.terms, from) || occurs_in_some(&self.terms, to) {
             return self.copy(alloc);
         }
         let mut terms = renamed_terms(alloc, &self.terms, from, to)?;
@@ -231,6 +241,23 @@ impl Poly {
         ensures { map shown result.now ≡ self.now }
     {
         self.terms.as_slice()
+    }
+
+    /// Whether it is 0.
+    pub fn is_zero(&self) -> bool
+        ensures { result ≡ is_zero self.now }
+    {
+        self.terms.is_empty()
+    }
+
+    /// Whether it is a negative number.
+    pub fn is_negative(&self) -> bool
+        ensures { result ≡ is_negative self.now }
+    {
+        match self.terms.as_slice() {
+            [term] if term.monomial.is_one() => term.coef.is_negative(),
+            _ => false,
+        }
     }
 
     /// The number that the polynomial is, or `None` where it has a variable.

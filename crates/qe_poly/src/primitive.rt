@@ -1,10 +1,11 @@
 //! The greatest common divisor of the coefficients of terms, and their quotients by it.
 
-ghost use Rattle.std.specs.Prelude.{◌≡◌, ◌≢◌, ◌≤ℤ◌, pos, neg_ℤ, unsigned_abs, cond, map, IfOk};
-ghost use Rattle.qe_poly.specs.Primitive.{divided, leads_negative, DividesEach, IsContent};
+ghost use Rattle.std.specs.Prelude.{◌≡◌, ◌≢◌, ◌≤ℤ◌, pos, neg_ℤ, unsigned_abs, cond, map, IfOk, IsTrue};
+ghost use Rattle.qe_poly.specs.Polynomial.{IsPolynomial};
+ghost use Rattle.qe_poly.specs.Primitive.{divided, leads_negative, DividesEach, IsContent, IsOwnPrimitive};
 ghost use Rattle.qe_poly.specs.Rows.{shown};
 
-use crate::term::{Term, is_negative};
+use crate::term::Term;
 use qe_coef::Coef;
 use std::alloc::{AllocError, Global};
 
@@ -26,8 +27,16 @@ pub fn leads_negative(terms: &[Term]) -> bool
 {
     match terms {
         [] => false,
-        [leading, ..] => is_negative(leading.coef),
+        [leading, ..] => leading.coef.is_negative(),
     }
+}
+
+/// Whether it is primitive: the leading coefficient is positive, and no greater number divides all coefficients.
+pub fn is_primitive(terms: &[Term]) -> bool
+    requires { IsPolynomial (map shown terms.now) }
+    ensures { IsTrue result → IsOwnPrimitive (map shown terms.now) }
+{
+    !leads_negative(terms) && content(terms).is_one()
 }
 
 /// The number, negated where it is told so.

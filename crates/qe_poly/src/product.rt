@@ -2,14 +2,14 @@
 
 ghost use Rattle.std.specs.Prelude.{◌≡◌, [], cond, map, IfOk, MatchResult};
 ghost use Rattle.qe_poly.specs.Polynomial.{products};
-ghost use Rattle.qe_poly.specs.Limits.{IsStop, or_else};
+ghost use Rattle.qe_halt.specs.Outcome.{IsStop, or_else};
 ghost use Rattle.qe_poly.specs.Rows.{shown};
 ghost use Rattle.qe_poly.specs.Tally.{shown_group, IsInOrder};
 ghost use Rattle.qe_poly.specs.Collected.{product_row, has_high, exponent_limit, fitted_row, fitted, entered, limit_of, row_wide, pairs_wide, monomials_limit, tallied_limit, tallied_terms, collected_limit};
 
 use crate::limit::{MOST_MONOMIALS, PolyLimit, PolyStop};
 use crate::tally::{Group, enter};
-use crate::term::{Term, is_zero};
+use crate::term::Term;
 use qe_coef::{Coef, Wide};
 use std::alloc::Global;
 
@@ -108,7 +108,7 @@ fn finish(alloc: Global, groups: Vec<Group>) -> Result<Vec<Term>, PolyStop>
         if let Some(wide) = tally.over {
             return Err(PolyStop::Limit(PolyLimit::Coefficient(wide)));
         }
-        if !is_zero(tally.sum) {
+        if !tally.sum.is_zero() {
             terms.push(Term {
                 monomial,
                 coef: tally.sum,

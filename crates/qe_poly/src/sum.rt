@@ -2,12 +2,12 @@
 
 ghost use Rattle.std.specs.Prelude.{◌≡◌, ◌++◌, ◌∷◌, [], map, pos, IfOk, MatchResult};
 ghost use Rattle.qe_coef.specs.Exact.{IsExact};
-ghost use Rattle.qe_poly.specs.Limits.{IsStop};
+ghost use Rattle.qe_halt.specs.Outcome.{IsStop};
 ghost use Rattle.qe_poly.specs.Rows.{shown, shown_row, merged, kept_results, row_limit, merged_limit};
 
 use crate::limit::{MOST_MONOMIALS, PolyLimit, PolyStop};
 use crate::monomial::Monomial;
-use crate::term::{Term, is_zero};
+use crate::term::Term;
 use qe_coef::{Coef, Op, Wide};
 use std::alloc::{AllocError, Global};
 use std::cmp::Ordering;
@@ -122,7 +122,7 @@ fn results(alloc: Global, rows: Vec<Row>, op: Op) -> Result<Vec<Term>, PolyStop>
         } = row;
         match apply(op, left, right) {
             Ok(coef) => {
-                if !is_zero(coef) {
+                if !coef.is_zero() {
                     terms.push(Term { monomial, coef })?;
                 }
             }

@@ -1,6 +1,7 @@
 //! Monomials in order, each with what is known of the coefficients that meet there.
 
 ghost use Rattle.std.specs.Prelude.{◌≡◌, map, IfOk, MatchResult};
+ghost use Rattle.qe_halt.specs.declared.halt.Halt.{Halt};
 ghost use Rattle.qe_poly.specs.Tally.{empty_tally, tally_more, shown_group, enter_tally, IsInOrder, IsPlace};
 
 use crate::limit::PolyStop;
@@ -82,7 +83,7 @@ pub fn enter(groups: &mut Vec<Group>, monomial: Monomial, coef: Coef) -> Result<
     ensures order { IfOk result (λ _. IsInOrder groups.new.items) }
     ensures entered { MatchResult result
         (λ _. map shown_group groups.new.items ≡ enter_tally (monomial, coef) (map shown_group groups.old.items))
-        (λ stop. stop ≡ PolyStop.OutOfMemory) }
+        (λ stop. stop ≡ Halt.OutOfMemory) }
 {
     match place(groups, &monomial) {
         Ok(i) => {

@@ -1,8 +1,7 @@
 //! Terms of polynomials.
 
-ghost use Rattle.std.specs.Prelude.{◌≡◌, pos, refl, Some};
-ghost use Rattle.std.specs.Ordering.{int_eq, as_partial_cmp};
-ghost use Rattle.std.specs.Int.RustNames.{int_lt};
+ghost use Rattle.std.specs.Prelude.{refl, Some};
+ghost use Rattle.std.specs.Ordering.{as_partial_cmp};
 ghost use Rattle.std.specs.Cmp.{on_total, po};
 ghost use Rattle.qe_poly.specs.Order.{term_cmp, term_total, term_ties};
 ghost use Rattle.qe_poly.specs.Rows.{shown};
@@ -42,18 +41,4 @@ impl PartialOrd for Term {
     fn partial_cmp(&self, other: &Term) -> Option<Ordering> {
         Some(self.cmp(other))
     }
-}
-
-/// Whether a coefficient is 0, so that its term is left out.
-pub fn is_zero(coef: Coef) -> bool
-    ensures { result ≡ int_eq coef (pos 0) }
-{
-    coef.value() == 0
-}
-
-/// Whether a coefficient is negative.
-pub fn is_negative(coef: Coef) -> bool
-    ensures { result ≡ int_lt coef (pos 0) }
-{
-    coef.value() < 0
 }

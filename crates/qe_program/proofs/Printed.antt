@@ -9,7 +9,8 @@ use Rattle.qe_poly.specs.Polynomial.{Polynomial}
 use Rattle.qe_form.specs.declared.form.Atom as atom
 use Rattle.qe_form.specs.Signs.{bits}
 use Rattle.qe_form.specs.Formula.{Formula, Formulas, True, False, Atom, And, Or, Not, Implies, Iff, Ex, All, no_more, more}
-use Rattle.qe_form.specs.Same.{OccursIn, OccursInSome, IsFree, IsFreeInSome, HasNoQuantifier, HaveNoQuantifier}
+use Rattle.qe_form.specs.Same.{IsFree, IsFreeInSome, HasNoQuantifier, HaveNoQuantifier}
+use Rattle.qe_poly.specs.Occurs.{OccursIn, OccursInSome}
 use Rattle.qe_print.specs.Polynomial.{name_of, power_text, factors_text, term_text, terms_text, polynomial_text}
 use Rattle.qe_print.specs.Formula.{relation_text, atom_text, bracketed, part, is_one, list_text, formula_text, parts_text}
 use Rattle.qe_read.specs.Names.{Letters}

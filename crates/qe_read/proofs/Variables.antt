@@ -9,7 +9,7 @@ use Rattle.qe_poly.specs.declared.monomial.Var.{Var}
 use Rattle.qe_poly.specs.declared.monomial.Power.{Power}
 use Rattle.qe_poly.specs.Monomial.{Monomial, times, times_power, in_turn}
 use Rattle.qe_poly.specs.Polynomial.{Term, Polynomial, constant, power_of, negative, sum, difference, product, collected, gathered, enter, with_first, Group, total, nonzero, pairs, pair_product, products}
-use Rattle.qe_form.specs.Same.{OccursIn, OccursInSome}
+use Rattle.qe_poly.specs.Occurs.{OccursIn, OccursInSome}
 
 module _ (Q : ℕ → Type 0) where
   -- all variables of a monomial, and of monomials with something beside them

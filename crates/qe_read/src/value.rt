@@ -2,7 +2,7 @@
 
 ghost use Rattle.std.specs.Prelude.{◌≡◌, Option, pos, map};
 ghost use Rattle.qe_poly.specs.declared.limit.PolyLimit.{PolyLimit};
-ghost use Rattle.qe_poly.specs.Limits.{IsAnswer};
+ghost use Rattle.qe_halt.specs.Outcome.{IsAnswer};
 ghost use Rattle.qe_poly.specs.Polynomial.{Polynomial};
 ghost use Rattle.qe_syntax.specs.Code.{term_of, addend_of, addends_of, factor_of, factors_of};
 ghost use Rattle.qe_read.specs.Names.{variable as variable_of};

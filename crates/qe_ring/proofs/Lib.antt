@@ -1,3 +1,4 @@
+pub mod Bools
 pub mod Solver
 pub mod Hypotheses
 pub mod Finite

@@ -12,7 +12,7 @@ use Rattle.qe_line.proofs.Meaning.{means}
 use Rattle.qe_poly.specs.Polynomial.{Polynomial, negative, product}
 use Rattle.qe_form.specs.declared.signs.Signs.{Signs}
 use Rattle.qe_poly.specs.declared.limit.PolyLimit.{PolyLimit}
-use Rattle.qe_poly.specs.declared.limit.PolyStop.{PolyStop}
+use Rattle.qe_halt.specs.declared.halt.Halt.{Halt}
 use Rattle.qe_form.specs.declared.form.Form.{Form}
 use Rattle.qe_form.specs.Formula.{Formula}
 use Rattle.qe_form.specs.Tree.{tree}
@@ -171,7 +171,7 @@ pub form_is : (a b r : Polynomial) (signs : Signs) (f : Formula) → IsProper si
 form_is a b r signs f proper same = subst (λ g. IsSignForm a b r signs g) (sym same) (sign_formula_is a b r signs proper)
 
 -- and for its answer
-pub answer_is : (a b r : Polynomial) (signs : Signs) (limit : Option PolyLimit) (result : Result Form PolyStop) → IsProper signs
+pub answer_is : (a b r : Polynomial) (signs : Signs) (limit : Option PolyLimit) (result : Result Form (Halt PolyLimit)) → IsProper signs
     → IsOutcome limit (λ f. tree f ≡ sign_formula a b r signs) result → IfOk result (λ f. IsSignForm a b r signs (tree f))
 answer_is a b r signs limit (Ok f) proper exact = form_is a b r signs (tree f) proper exact.1
 answer_is a b r signs limit (Err stop) proper exact = tt

@@ -2,7 +2,7 @@
 
 ghost use Rattle.std.specs.Prelude.{◌≡◌, cond, IfOk};
 ghost use Rattle.qe_poly.specs.Polynomial as spec;
-ghost use Rattle.qe_poly.specs.Limits.{IsAnswer};
+ghost use Rattle.qe_halt.specs.Outcome.{IsAnswer};
 ghost use Rattle.qe_form.specs.Signs.{IsProper};
 ghost use Rattle.qe_form.specs.Tree.{tree};
 ghost use Rattle.qe_form.specs.Formula as formula;

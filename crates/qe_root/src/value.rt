@@ -2,7 +2,7 @@
 
 ghost use Rattle.std.specs.Prelude.{ℤ, pos, ◌≡◌, ◌≤◌, IfOk};
 ghost use Rattle.qe_poly.specs.Polynomial as spec;
-ghost use Rattle.qe_poly.specs.Limits.{IsAnswer};
+ghost use Rattle.qe_halt.specs.Outcome.{IsAnswer};
 ghost use Rattle.qe_poly.specs.Value.{scaled};
 ghost use Rattle.qe_poly.specs.Coefficients.{degree_in};
 ghost use Rattle.qe_root.specs.Outcome.{IsOutcome, is_zero};

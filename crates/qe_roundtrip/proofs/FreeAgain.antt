@@ -7,7 +7,7 @@ use Rattle.qe_poly.specs.declared.monomial.Var.{Var}
 use Rattle.qe_poly.specs.Monomial.{Monomial}
 use Rattle.qe_poly.specs.Polynomial.{Polynomial}
 use Rattle.qe_form.specs.Formula.{Formula, Formulas, True, False, Atom, And, Or, Not, Implies, Iff, Ex, All, no_more, more}
-use Rattle.qe_form.specs.Same.{OccursIn, OccursInSome}
+use Rattle.qe_poly.specs.Occurs.{OccursIn, OccursInSome}
 use Rattle.qe_form.specs.Measures.{Has, SomeHas}
 use Rattle.qe_print.specs.Polynomial.{name_of}
 use Rattle.qe_read.specs.Names.{Letters, is_same, or_free}

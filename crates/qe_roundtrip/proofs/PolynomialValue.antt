@@ -17,7 +17,8 @@ use Rattle.qe_poly.specs.declared.monomial.Var.{Var}
 use Rattle.qe_poly.specs.declared.monomial.Power.{Power}
 use Rattle.qe_poly.specs.Monomial.{Monomial, times, is_high, IsAbove, IsMonomial}
 use Rattle.qe_poly.specs.Polynomial.{Term, Polynomial, IsPolynomial, gathered, collected, constant, power_of, negative, product, pairs, products}
-use Rattle.qe_poly.specs.Limits.{or_else, first_limit, limit_if, wide, magnitude_limit, product_limit}
+use Rattle.qe_poly.specs.Limits.{first_limit, limit_if, wide, magnitude_limit, product_limit}
+use Rattle.qe_halt.specs.Outcome.{or_else}
 use Rattle.qe_poly.proofs.Parts.{nat_less}
 use Rattle.qe_poly.proofs.Constants.{wide-in_range}
 use Rattle.qe_print.specs.Polynomial.{name_of, power_text, factors_text, term_text, terms_text, polynomial_text}

@@ -18,7 +18,8 @@ use Rattle.qe_poly.specs.declared.limit.PolyLimit.TheVariants.{Coefficient, Expo
 use Rattle.qe_poly.specs.declared.monomial.Var.{Var}
 use Rattle.qe_poly.specs.Monomial.{Monomial, in_turn, is_high, IsMonomial}
 use Rattle.qe_poly.specs.Polynomial.{Term, Polynomial, Group, IsBelow, IsPolynomial, coefficient, enter, with_first, gathered, total, nonzero, collected, constant, power_of, negative, sum, difference, product, pairs, products}
-use Rattle.qe_poly.specs.Limits.{or_else, first_limit, limit_if, wide, sum_limit, magnitude_limit, product_limit}
+use Rattle.qe_poly.specs.Limits.{first_limit, limit_if, wide, sum_limit, magnitude_limit, product_limit}
+use Rattle.qe_halt.specs.Outcome.{or_else}
 use Rattle.qe_poly.specs.Rows.{merged, kept_results}
 use Rattle.qe_poly.proofs.Sorted.{Each, Each-append, under_keys}
 use Rattle.qe_poly.proofs.Canonical.{or_zero, sorted_from, Each-monomial, IsPolynomial-collected, coefficient-collected, coefficient-append, coefficient_found, same_polynomial}

@@ -11,7 +11,8 @@ use Rattle.qe_form.specs.Signs.{bits}
 use Rattle.qe_form.specs.Formula.{Formula, Formulas, True, False, Atom, And, Or, Not, Implies, Iff, Ex, All, no_more, more}
 use Rattle.qe_form.specs.Tree.{trees_of}
 use Rattle.qe_form.specs.Truth.{has_sign}
-use Rattle.qe_form.specs.Same.{OccursInSome, IsFree, IsFreeInSome}
+use Rattle.qe_form.specs.Same.{IsFree, IsFreeInSome}
+use Rattle.qe_poly.specs.Occurs.{OccursInSome}
 use Rattle.qe_form.specs.Measures.{count, count_each}
 use Rattle.qe_form.specs.Order.{formula_cmp}
 use Rattle.qe_simp.specs.declared.connective.Connective.{Connective}

@@ -9,7 +9,7 @@ use Rattle.qe_poly.specs.declared.monomial.Power.{Power}
 use Rattle.qe_poly.specs.Monomial.{Monomial, in_turn, IsMonomial, IsAbove, times, times_power}
 use Rattle.qe_poly.specs.Polynomial.{Term, Polynomial, Group, IsPolynomial, enter, with_first, gathered, total, nonzero, collected, negative, sum, pairs, pair_product, products, product}
 use Rattle.qe_poly.specs.Coefficients.{exponent_of, without, degree_in, coefficient_in}
-use Rattle.qe_form.specs.Same.{OccursIn, OccursInSome}
+use Rattle.qe_poly.specs.Occurs.{OccursIn, OccursInSome}
 
 -- ---- coefficients
 

@@ -9,7 +9,8 @@ use Rattle.qe_poly.proofs.Derivatives.{IsPolynomial-derivative}
 use Rattle.qe_form.specs.declared.form.Atom as atom
 use Rattle.qe_form.specs.declared.signs.Signs.{Signs}
 use Rattle.qe_form.specs.Formula.{Formula, Formulas, True, False, Atom, And, Or, no_more, more}
-use Rattle.qe_form.specs.Same.{OccursIn, OccursInSome, IsFree, IsFreeInSome}
+use Rattle.qe_form.specs.Same.{IsFree, IsFreeInSome}
+use Rattle.qe_poly.specs.Occurs.{OccursIn, OccursInSome}
 use Rattle.qe_root.specs.declared.point.RootPoint.{RootPoint}
 use Rattle.qe_root.specs.declared.point.Point.{Point}
 use Rattle.qe_root.specs.declared.point.Point.TheVariants.{Root, RootPlus, MinusInf}

@@ -1,7 +1,8 @@
 -- Which variables are left after a substitution.
 use Rattle.std.specs.Prelude.{ℕ, ◌≢◌, ◌⊎◌}
 use Rattle.qe_form.specs.Formula.{Formula}
-use Rattle.qe_form.specs.Same.{OccursInSome, IsFree}
+use Rattle.qe_form.specs.Same.{IsFree}
+use Rattle.qe_poly.specs.Occurs.{OccursInSome}
 use Rattle.qe_root.specs.declared.point.RootPoint.{RootPoint}
 use Rattle.qe_root.specs.declared.point.Point.{Point}
 use Rattle.qe_root.specs.declared.point.Point.TheVariants.{Root, RootPlus, MinusInf}

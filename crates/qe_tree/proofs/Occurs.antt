@@ -6,7 +6,7 @@ use Rattle.std.proofs.lemmas.Bool.Decides.{eqb_tells}
 use Rattle.qe_poly.specs.Monomial.{Monomial}
 use Rattle.qe_poly.specs.Polynomial.{Polynomial}
 use Rattle.qe_form.specs.Formula.{Formula, Formulas, True, False, Atom, And, Or, Not, Implies, Iff, Ex, All, no_more, more}
-use Rattle.qe_form.specs.Same.{OccursIn, OccursInSome}
+use Rattle.qe_poly.specs.Occurs.{OccursIn, OccursInSome}
 use Rattle.qe_form.specs.Measures.{Has, SomeHas}
 use Rattle.qe_tree.specs.Variables.{occurs_in, occurs_in_some, occurs, some_occurs, remaining}
 use Rattle.qe_tree.specs.Sound.{IsIn}

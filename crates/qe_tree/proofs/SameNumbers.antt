@@ -8,7 +8,8 @@ use Rattle.qe_poly.specs.Value as ring
 use Rattle.qe_form.specs.Formula.{Formula, Formulas, True, False, Atom, And, Or, Not, Implies, Iff, Ex, All, no_more, more}
 use Rattle.qe_form.specs.Value.{value}
 use Rattle.qe_form.specs.Truth.{has_sign, Is, EachIs, SomeIs}
-use Rattle.qe_form.specs.Same.{OccursIn, OccursInSome, HasNoQuantifier, HaveNoQuantifier}
+use Rattle.qe_form.specs.Same.{HasNoQuantifier, HaveNoQuantifier}
+use Rattle.qe_poly.specs.Occurs.{OccursIn, OccursInSome}
 use Rattle.qe_form.specs.Measures.{Has, SomeHas}
 
 -- both points give these variables the same numbers

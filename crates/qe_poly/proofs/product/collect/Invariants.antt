@@ -1,5 +1,5 @@
 use Rattle.std.proofs.Common.{◌≡◌, ltb, false, length, map, drop, []}
-use Rattle.qe_poly.specs.Limits.{or_else}
+use Rattle.qe_halt.specs.Outcome.{or_else}
 use Rattle.qe_poly.specs.Polynomial.{products}
 use Rattle.qe_poly.specs.Tally.{shown_group, IsInOrder}
 use Rattle.qe_poly.specs.Collected.{has_high, fitted, entered, limit_of, pairs_wide}

@@ -1,5 +1,5 @@
 use Rattle.std.proofs.Common.{◌≡◌, map, drop}
-use Rattle.qe_poly.specs.Limits.{or_else}
+use Rattle.qe_halt.specs.Outcome.{or_else}
 use Rattle.qe_poly.specs.Tally.{shown_group, IsInOrder}
 use Rattle.qe_poly.specs.Collected.{product_row, has_high, fitted_row, entered, limit_of, row_wide}
 use Rattle.qe_poly.specs.Rows.{shown}

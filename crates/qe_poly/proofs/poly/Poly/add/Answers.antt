@@ -1,9 +1,11 @@
 use Rattle.std.proofs.Common.{◌∙◌, sym, subst, map}
 use Rattle.qe_coef.specs.declared.Op.TheVariants.{Add}
 use Rattle.qe_poly.specs.Polynomial.{IsPolynomial, sum}
-use Rattle.qe_poly.specs.Limits.{sum_limit, IsStop}
+use Rattle.qe_poly.specs.Limits.{sum_limit}
+use Rattle.qe_halt.specs.Outcome.{IsStop}
 use Rattle.qe_poly.specs.Rows.{shown}
-use Rattle.qe_poly.proofs.MergedSums.{Combined, combined_is, results-sum, handed_on}
+use Rattle.qe_poly.proofs.MergedSums.{Combined, combined_is, results-sum}
+use Rattle.qe_halt.proofs.Handed.{handed_on}
 use Rattle.qe_poly.proofs.poly.Poly.add.Goals as goal
 use Rattle.qe_poly.proofs.poly.Poly.add.Goals.{After-combine}
 

@@ -1,9 +1,10 @@
 use Rattle.std.proofs.Common.{◌∙◌, sym, subst, map}
 use Rattle.qe_poly.specs.Polynomial.{IsPolynomial, product}
-use Rattle.qe_poly.specs.Limits.{product_limit, IsStop}
+use Rattle.qe_poly.specs.Limits.{product_limit}
+use Rattle.qe_halt.specs.Outcome.{IsStop}
 use Rattle.qe_poly.specs.Rows.{shown}
-use Rattle.qe_poly.proofs.MergedSums.{handed_on}
 use Rattle.qe_poly.proofs.CollectedProduct.{Multiplied, multiplied_is}
+use Rattle.qe_halt.proofs.Handed.{handed_on}
 use Rattle.qe_poly.proofs.poly.Poly.mul.Goals as goal
 use Rattle.qe_poly.proofs.poly.Poly.mul.Goals.{After-multiply}
 

@@ -1,9 +1,11 @@
 use Rattle.std.proofs.Common.{◌∙◌, sym, subst, map}
 use Rattle.qe_coef.specs.declared.Op.TheVariants.{Sub}
 use Rattle.qe_poly.specs.Polynomial.{IsPolynomial, difference}
-use Rattle.qe_poly.specs.Limits.{sum_limit, IsStop}
+use Rattle.qe_poly.specs.Limits.{sum_limit}
+use Rattle.qe_halt.specs.Outcome.{IsStop}
 use Rattle.qe_poly.specs.Rows.{shown}
-use Rattle.qe_poly.proofs.MergedSums.{Combined, combined_is, results-difference, handed_on}
+use Rattle.qe_poly.proofs.MergedSums.{Combined, combined_is, results-difference}
+use Rattle.qe_halt.proofs.Handed.{handed_on}
 use Rattle.qe_poly.proofs.poly.Poly.sub.Goals as goal
 use Rattle.qe_poly.proofs.poly.Poly.sub.Goals.{After-combine}
 
