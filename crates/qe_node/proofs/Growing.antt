@@ -16,7 +16,8 @@ use Rattle.qe_node.specs.declared.stop.NodeStop.{NodeStop}
 use Rattle.qe_node.specs.declared.stop.NodeStop.TheVariants.{DegreeExcess}
 use Rattle.qe_node.specs.declared.stop.GrowthLimit.{GrowthLimit}
 use Rattle.qe_node.specs.Node.{Sight}
-use Rattle.qe_node.specs.Successors.{Tried, fails, skipped, gives, is_true, before, and_then, tried, given_by, at_variable, at_choice, as_vars, expansion}
+use Rattle.qe_form.specs.Making.{is_true}
+use Rattle.qe_node.specs.Successors.{Tried, fails, skipped, gives, before, and_then, tried, given_by, at_variable, at_choice, as_vars, expansion}
 use Rattle.qe_node.specs.Answer.{others, below, numbered_nodes, with_nodes, expansion_of}
 use Rattle.qe_node.specs.Growth.{nodes_below, IsGrowthStop, IsGrowth}
 use Rattle.qe_node.proofs.Remaining.{numbers}

@@ -15,7 +15,7 @@ use Rattle.qe_node.specs.Answer.{expansion_of, numbered_nodes, IsExpansion}
 use Rattle.qe_node.specs.Piece.{is_leaf, is_true_leaf, height_of, by_keys, meaning_of}
 use Rattle.qe_node.specs.lemmas.Code.{sight-back}
 use Rattle.qe_tree.specs.Tree.{is_empty}
-use Rattle.qe_node.specs.Successors.{is_true}
+use Rattle.qe_form.specs.Making.{is_true}
 use Rattle.qe_node.proofs.Remaining.{numbers}
 
 children-shown : (list : List (Next Sight)) → map (λ s. record { point = s.0; key = sight_key s.1 }) (numbered_nodes list) ≡ map (child_of sight_key) list

@@ -5,7 +5,7 @@ use Rattle.qe_piece.specs.Meaning.{Meaning, gives, fails}
 use Rattle.qe_node.specs.declared.stop.NodeStop.{NodeStop}
 use Rattle.qe_node.specs.Node.{Sight}
 use Rattle.qe_node.specs.key.Code.{sight_key}
-use Rattle.qe_node.specs.Successors.{is_true}
+use Rattle.qe_form.specs.Making.{is_true}
 use Rattle.qe_node.specs.Answer.{expansion_of}
 
 -- a node without variables is a leaf, and it is true where its formula is True

@@ -1,9 +1,10 @@
 -- The successors of a node: a variable is chosen and each of its candidates tried in turn; or why the node fails.
-use Rattle.std.specs.Prelude.{ℕ, suc, Bool, true, false, cond, List, [], ◌∷◌, map, Option, Some, None, Result, Ok, Err}
+use Rattle.std.specs.Prelude.{ℕ, suc, cond, List, [], ◌∷◌, map, Option, Some, None, Result, Ok, Err}
 use Rattle.qe_poly.specs.declared.monomial.Var.{Var}
 use Rattle.qe_poly.specs.declared.limit.PolyLimit.{PolyLimit}
 use Rattle.qe_poly.specs.Polynomial.{Polynomial}
-use Rattle.qe_form.specs.Formula.{Formula, True, False, And, no_more, more}
+use Rattle.qe_form.specs.Formula.{Formula}
+use Rattle.qe_form.specs.Making.{both, is_true, is_false}
 use Rattle.qe_simp.specs.Simplified.{simplified}
 use Rattle.qe_root.specs.declared.point.Point.{Point}
 use Rattle.qe_root.specs.declared.stop.Stage.TheVariants as stage
@@ -20,14 +21,6 @@ use Rattle.qe_subst.specs.Stop.{stop}
 use Rattle.qe_tree.specs.Expanded.{Expanded, Expansion, successors, failed}
 use Rattle.qe_node.specs.declared.stop.NodeStop.{NodeStop}
 use Rattle.qe_node.specs.declared.stop.NodeStop.TheVariants.{DegreeExcess, Limit, TooLarge}
-
-abbrev pub is_false : Formula → Bool
-is_false False = true
-is_false f = false
-
-abbrev pub is_true : Formula → Bool
-is_true True = true
-is_true f = false
 
 -- the number of the candidate's atom
 abbrev pub atom_of : Candidate → ℕ
@@ -58,7 +51,7 @@ after_stop n g None = unless_false g
 module _ (x : ℕ) (f : Formula) where
   -- the simplified And of a guard and of the formula at its point
   abbrev pub joined : (guard : Formula) → Point → Option Polynomial → Formula
-  joined guard point own = simplified (And (more guard (more (substituted x point own f) no_more)))
+  joined guard point own = simplified (both guard (substituted x point own f))
 
   abbrev pub put_in : ℕ → (guard : Formula) → Point → Option Polynomial → Tried
   put_in n guard point own = after_stop n (joined guard point own) (stop x point own f)

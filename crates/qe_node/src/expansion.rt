@@ -8,7 +8,7 @@ ghost use Rattle.qe_points.specs.Candidates as listed;
 ghost use Rattle.qe_points.specs.Choice.{choice};
 ghost use Rattle.qe_points.specs.Guarded.{HasRoot};
 ghost use Rattle.qe_tree.specs.Sound.{IsFine};
-ghost use Rattle.qe_node.specs.Successors.{as_vars, given_by, is_true};
+ghost use Rattle.qe_node.specs.Successors.{as_vars, given_by};
 ghost use Rattle.qe_node.specs.Answer.{IsExpansion, others, expansion_of};
 ghost use Rattle.qe_node.specs.Growth.{IsGrowth, nodes_below};
 ghost use Rattle.qe_node.specs.Truth.{KeepsTruth, TruthIsKept};
@@ -24,16 +24,6 @@ use std::alloc::Global;
 pub struct Grown {
     pub var: Var,
     pub successors: Vec<Next<Node>>,
-}
-
-/// Whether the formula is True.
-pub fn is_true(form: &Form) -> bool
-    ensures { result ≡ is_true (tree form.now) }
-{
-    match form {
-        Form::True => true,
-        _ => false,
-    }
 }
 
 /// Whether the variable is another.
@@ -83,7 +73,7 @@ fn try_candidates<T: Stop>(
             Trial::Failed(fault) => return Err(GrowthStop::Limit(GrowthLimit::Failed(fault))),
             Trial::Skipped => {}
             Trial::Given(form) => {
-                let last = is_true(&form);
+                let last = form.is_true();
                 let piece = root(alloc, vars, form)?;
                 grown.push(Next {
                     point: number as u64,

@@ -5,7 +5,6 @@ ghost use Rattle.qe_node.specs.lemmas.Equal.{same_is_key};
 ghost use Rattle.qe_node.specs.lemmas.Piece.{true_is_leaf, descends};
 ghost use Rattle.qe_node.specs.Piece.{is_leaf, is_true_leaf, height_of, meaning_of};
 
-use crate::expansion::is_true;
 use crate::{Node, NodeStop, OutOfMemory, Sequence, expand};
 use qe_piece::{Made, Maker, Piece, Stop};
 use std::alloc::Global;
@@ -35,7 +34,7 @@ impl Piece for Node {
     }
 
     fn is_true(&self) -> bool {
-        self.vars.items().is_empty() && is_true(&self.form)
+        self.vars.items().is_empty() && self.form.is_true()
     }
 
     fn rank(&self) -> u64 {

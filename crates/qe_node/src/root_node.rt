@@ -4,17 +4,10 @@ ghost use Rattle.std.specs.Prelude.{◌≡◌, ◌≢◌, ◌<◌, ◌≤◌, �
 ghost use Rattle.qe_form.specs.Measures.{count};
 ghost use Rattle.qe_form.specs.Plain.{IsPlainAndProper};
 ghost use Rattle.qe_form.specs.Tree.{tree};
-ghost use Rattle.qe_tree.specs.Variables.{occurs, remaining};
+ghost use Rattle.qe_tree.specs.Variables.{remaining};
 
 use crate::{Form, Node, OutOfMemory, Sequence, Var, Vars};
 use std::alloc::Global;
-
-/// Whether the variable occurs in the formula.
-fn occurs(form: &Form, var: Var) -> bool
-    ensures { result ≡ occurs var.0 (tree form.now) }
-{
-    form.has(var)
-}
 
 /// Those of the variables that occur in a formula, in their order.
 fn remaining(alloc: Global, vars: &[Var], form: &Form) -> Result<Vars, OutOfMemory>
@@ -22,7 +15,7 @@ fn remaining(alloc: Global, vars: &[Var], form: &Form) -> Result<Vars, OutOfMemo
 {
     let mut left = Sequence::new(alloc);
     for var in vars {
-        if occurs(form, *var) {
+        if form.has(*var) {
             left.push(*var)?;
         }
     }

@@ -1,12 +1,13 @@
 -- Nodes that the test tells equal are equal: so they feed a hasher the same, and have the same key.
-use Rattle.std.specs.Prelude.{◌≡◌, refl, ℕ, Bool, true, false, ◌&&◌, ◌↔◌, IsTrue, eqb, List, [], ◌∷◌}
-use Rattle.std.proofs.Common.{ap, sym, ◌∙◌, subst, T}
+use Rattle.std.specs.Prelude.{◌≡◌, refl, ℕ, true, ◌↔◌, IsTrue, eqb, List, [], ◌∷◌}
+use Rattle.std.proofs.Common.{ap, sym, ◌∙◌, subst}
 use Rattle.std.proofs.lemmas.Bool.{eqb-true}
 use Rattle.std.specs.Ordering.{is_eq}
 use Rattle.std.specs.Cmp.{IsEquivalence, on_equiv, and_equiv, eq_by_cmp_equiv}
 use Rattle.std.specs.declared.cmp.Ordering.{Ordering}
 use Rattle.std.specs.declared.cmp.Ordering.TheVariants.{Less, Equal, Greater}
 use Rattle.std.proofs.lemmas.Cmp.{lists_equiv, nat_eq_equiv}
+use Rattle.qe_ring.proofs.Bools.{no_way, both_hold}
 use Rattle.qe_form.specs.Order.{formula_cmp}
 use Rattle.qe_form.specs.OrderLaws.{formula_total, formula_same}
 use Rattle.qe_node.specs.Node.{Sight}
@@ -18,13 +19,6 @@ use lib.Pointwise.{pointwise}
 pub same_sight_equiv : IsEquivalence same_sight
 same_sight_equiv =
     and_equiv (on_equiv (λ n. n.vars) (lists_equiv nat_eq_equiv)) (on_equiv (λ n. n.form) (eq_by_cmp_equiv formula_total))
-
-no_way : {A : Type 0} → false ≡ true → A
-no_way holds = absurd (subst T (sym holds) tt)
-
-both_hold : (a b : Bool) → (a && b) ≡ true → (a ≡ true) × (b ≡ true)
-both_hold true b holds = (refl, holds)
-both_hold false b holds = no_way holds
 
 same_numbers : (xs ys : List ℕ) → pointwise eqb xs ys ≡ true → xs ≡ ys
 same_numbers [] [] holds = refl

@@ -4,6 +4,7 @@ use Rattle.std.specs.List.{All}
 use Rattle.std.proofs.Common.{ap, sym, subst, inl, inr, arith}
 use Rattle.std.proofs.lemmas.List.Elements.{All-nil, All-cons}
 use Rattle.std.proofs.lemmas.Bool.{eq-eqb}
+use Rattle.qe_ring.proofs.Bools.{both_hold}
 use Rattle.qe_poly.specs.declared.monomial.Var.{Var}
 use Rattle.qe_form.specs.Formula.{Formula}
 use Rattle.qe_form.specs.Measures.{degree}
@@ -20,12 +21,8 @@ use Rattle.qe_node.specs.Answer.{others, below, with_nodes}
 use Rattle.qe_node.specs.Piece.{is_leaf, is_true_leaf, height_of, by_keys, meaning_of}
 use Rattle.qe_node.specs.lemmas.Code.{variables-key}
 
-first_holds : (a b : Bool) → (a && b) ≡ true → a ≡ true
-first_holds true b holds = refl
-first_holds false b holds = holds
-
 pub true_is_leaf : (k : List ℕ) → is_true_leaf (sight_of k) ≡ true → is_leaf (sight_of k) ≡ true
-true_is_leaf k holds = first_holds (is_empty (variables_of k)) _ holds
+true_is_leaf k holds = (both_hold (is_empty (variables_of k)) _ holds).0
 
 -- ---- fewer variables
 
