@@ -7,7 +7,8 @@ use Rattle.std.specs.Int.RustNames.{int_div, int_rem}
 use Rattle.std.proofs.Math.Nat.{mul-mod_left}
 use Rattle.qe_coef.specs.Range.{IsInRange, Divides}
 
-abs_positive : (d : ℤ) → d ≢ pos 0 → 0 < unsigned_abs d
+-- the magnitude of a number other than 0 is positive
+pub abs_positive : (d : ℤ) → d ≢ pos 0 → 0 < unsigned_abs d
 abs_positive (pos zero) h = absurd (h refl)
 abs_positive (pos (suc n)) h = omega arith
 abs_positive (negsuc n) h = omega arith

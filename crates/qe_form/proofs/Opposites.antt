@@ -13,12 +13,12 @@ use Rattle.qe_form.specs.declared.form.Form.{Form}
 use Rattle.qe_form.specs.Tree.{tree, trees}
 use Rattle.qe_form.proofs.Trees.{appended, trees_push}
 
-complement_has : (s : Signs) (t : Sign) → has_sign (complement s) t ≡ not (has_sign s t)
+pub complement_has : (s : Signs) (t : Sign) → has_sign (complement s) t ≡ not (has_sign s t)
 complement_has s Minus = refl
 complement_has s Zero = refl
 complement_has s Plus = refl
 
-not_moved : (a b : Bool) → (not a ≡ b) ↔ (a ≡ not b)
+pub not_moved : (a b : Bool) → (not a ≡ b) ↔ (a ≡ not b)
 not_moved true true = ((λ e. sym e), (λ e. sym e))
 not_moved true false = ((λ e. refl), (λ e. refl))
 not_moved false true = ((λ e. refl), (λ e. refl))

@@ -2,6 +2,7 @@
 use Rattle.std.proofs.Common.{ℕ, ◌≡◌, ◌≢◌, ◌∙◌, ◌⊎◌, ◌&&◌, not, inl, inr, refl, sym, ap, subst, Bool, true, false, cond, eqb, [], ◌∷◌, map, arith}
 use Rattle.std.proofs.lemmas.Bool.{eqb-true}
 use Rattle.std.proofs.lemmas.Bool.Decides.{nat_tests}
+use Rattle.qe_ring.proofs.Bools.{no_way}
 use Rattle.qe_ring.specs.Ring.{IsRing}
 use Rattle.qe_tower.specs.Number.{sign_of, Equal}
 use Rattle.qe_tower.specs.Point.{Point, IsPoint, number_at}
@@ -20,9 +21,6 @@ use Rattle.qe_poly.proofs.Occurring.{occurs_collected, occurs_times, occurs_in_s
 use Rattle.qe_form.proofs.Values.{valid_whole, whole_numbers, number_at_valid, valid_point, valid_value, value-number, rewritten, with_number}
 
 -- ---- which variables occur
-
-no_way : {A : Type 0} → true ≡ false → A
-no_way e = absurd (cc)
 
 apart_from : (i j : ℕ) → eqb i j ≡ false → j ≢ i
 apart_from i j test same = grind (arith, nat_tests)
@@ -63,7 +61,7 @@ module _ (x y : Var) (z : ℕ) where
   occurs_renamed q none h =
       elim (occurs_in_some x.0 q) as (λ b. occurs_in_some x.0 q ≡ b → OccursInSome z (cond (b && not (occurs_in_some y.0 q)) (with_renamed_terms x y q) q) → From (OccursInSome x.0 q) (OccursInSome z q)) [
         | true ↦ λ some k. occurs_renamed_terms q (occurs_collected z _ (subst (λ t. OccursInSome z (cond (not t) (with_renamed_terms x y q) q)) none k))
-        | false ↦ λ free k. inr (λ same. no_way (sym ((occurs_in_some_is x.0 q).1 (subst (λ i. OccursInSome i q) same k)) ∙ free), k)
+        | false ↦ λ free k. inr (λ same. no_way (sym free ∙ (occurs_in_some_is x.0 q).1 (subst (λ i. OccursInSome i q) same k)), k)
       ] refl h
 
 -- ---- the value

@@ -1,5 +1,5 @@
 -- The order of formulas is total, and ties only equal formulas: it is that of the formulas written as lists of tokens.
-use Rattle.std.proofs.Common.{ℕ, ◌≡◌, refl, sym, ap, subst, ◌∙◌, Bool, true, false, T, List, [], ◌∷◌, ◌++◌, append_assoc, ltb, eqb, ◌/◌, ◌%◌}
+use Rattle.std.proofs.Common.{ℕ, ◌≡◌, refl, sym, ap, subst, ◌∙◌, Bool, true, false, List, [], ◌∷◌, ◌++◌, append_assoc, ltb, eqb, ◌/◌, ◌%◌}
 use Rattle.std.proofs.lemmas.List.{append-nil}
 use Rattle.std.specs.declared.cmp.Ordering.{Ordering}
 use Rattle.std.specs.declared.cmp.Ordering.TheVariants.{Less, Equal, Greater}
@@ -8,6 +8,8 @@ use Rattle.std.specs.Cmp.{IsTotalOrder, nat_cmp_total, on_total, then_total}
 use Rattle.std.specs.Cmp.Lexicographic.{slice_cmp}
 use Rattle.std.specs.FinMap.{nat_cmp-IsAntisymmetric}
 use Rattle.std.proofs.lemmas.Cmp.{lists_total}
+use Rattle.qe_ring.proofs.Bools.{no_way}
+use Rattle.qe_ring.proofs.Ties.{equal_tie, then_Equal, both_tie}
 use Rattle.qe_poly.specs.Polynomial.{Polynomial}
 use Rattle.qe_poly.specs.Order.{poly_cmp, poly_total, poly_ties}
 use Rattle.qe_poly.specs.Equal.{poly_tells}
@@ -107,11 +109,6 @@ mutual
   compared_each (more f fs) (more g gs) r s =
       joined (tokens f) (tokens_each fs) (tokens g) (tokens_each gs) r s (formula_cmp f g) (formulas_cmp fs gs) (compared f g (tokens_each fs ++ r) (tokens_each gs ++ s)) (compared_each fs gs r s)
 
-then_Equal : (r : Ordering) → ordering_then r Equal ≡ r
-then_Equal Less = refl
-then_Equal Equal = refl
-then_Equal Greater = refl
-
 by_tokens : (f g : Formula) → cmp (tokens f) (tokens g) ≡ formula_cmp f g
 by_tokens f g = (λ i. cmp (sym (append-nil (tokens f)) i) (sym (append-nil (tokens g)) i)) ∙ (compared f g [] [] ∙ then_Equal (formula_cmp f g))
 
@@ -120,23 +117,15 @@ formula_total = subst IsTotalOrder (λ i f g. by_tokens f g i) (on_total tokens 
 
 -- ---- only equal formulas tie
 
-no_way : {A : Type 0} → false ≡ true → A
-no_way holds = absurd (subst T (sym holds) tt)
-
 never : {A : Type 0} (r : Ordering) → is_eq r ≡ false → r ≡ Equal → A
 never r apart tie = no_way (sym apart ∙ ap is_eq tie)
 
-both_tie : (r s : Ordering) → ordering_then r s ≡ Equal → (r ≡ Equal) × (s ≡ Equal)
-both_tie Less s tie = (tie, never Less refl tie)
-both_tie Equal s tie = (refl, tie)
-both_tie Greater s tie = (tie, never Greater refl tie)
-
 -- the signs of a number of bits
-signs_of : ℕ → Signs
-signs_of n = record { plus = ltb 3 n; zero = eqb (n / 2 % 2) 1; minus = eqb (n % 2) 1 }
+signs_of_bits : ℕ → Signs
+signs_of_bits n = record { plus = ltb 3 n; zero = eqb (n / 2 % 2) 1; minus = eqb (n % 2) 1 }
 
-bits_back : (plus zero minus : Bool) → signs_of (bits (record { plus = plus; zero = zero; minus = minus })) ≡ record { plus = plus; zero = zero; minus = minus }
-unfolding signs_of
+bits_back : (plus zero minus : Bool) → signs_of_bits (bits (record { plus = plus; zero = zero; minus = minus })) ≡ record { plus = plus; zero = zero; minus = minus }
+unfolding signs_of_bits
 bits_back true true true = refl
 bits_back true true false = refl
 bits_back true false true = refl
@@ -147,7 +136,7 @@ bits_back false false true = refl
 bits_back false false false = refl
 
 pub bits_same : (s t : Signs) → bits s ≡ bits t → s ≡ t
-bits_same s t same = sym (bits_back s.plus s.zero s.minus) ∙ (ap signs_of same ∙ bits_back t.plus t.zero t.minus)
+bits_same s t same = sym (bits_back s.plus s.zero s.minus) ∙ (ap signs_of_bits same ∙ bits_back t.plus t.zero t.minus)
 
 poly_same : (p q : Polynomial) → poly_cmp p q ≡ Equal → p ≡ q
 poly_same p q tie = poly_tells p q (poly_ties p q ∙ ap is_eq tie)
@@ -184,11 +173,6 @@ mutual
       let ties = both_tie (formula_cmp f g) (formulas_cmp fs gs) tie in λ i. more (formula_same f g ties.0 i) (formulas_same fs gs ties.1 i)
 
 -- ---- equal formulas feed alike
-
-equal_tie : (r : Ordering) → is_eq r ≡ true → r ≡ Equal
-equal_tie Less tie = no_way tie
-equal_tie Equal tie = refl
-equal_tie Greater tie = no_way tie
 
 pub fed_alike : (f g : Formula) → is_eq (formula_cmp f g) ≡ true → formula_fed f ≡ formula_fed g
 fed_alike f g tie = ap formula_fed (formula_same f g (equal_tie (formula_cmp f g) tie))

@@ -1,5 +1,6 @@
 -- The laws as they are stated, from the lemmas.
-use Rattle.std.proofs.Common.{◌≡◌, ◌↔◌, Bool, true, false, ◌&&◌, T, sym, subst}
+use Rattle.std.proofs.Common.{◌≡◌, ◌↔◌, ◌&&◌, T, sym, subst}
+use Rattle.qe_ring.proofs.Bools.{and_left, and_right}
 use Rattle.qe_ring.specs.Ring.{Operations}
 use Rattle.qe_ring.specs.Sign.{Sign, Zero, is}
 use Rattle.qe_ring.proofs.Finite.{is-eq, to_is}
@@ -26,14 +27,6 @@ three_zero x a b c e = (
     whole : (a b c : Sign) → a ≡ Zero → b ≡ Zero → c ≡ Zero → T (is a Zero && (is b Zero && is c Zero))
     whole a b c p q r = subst (λ z. T (is z Zero && (is b Zero && is c Zero))) (sym p)
         (subst (λ z. T (is z Zero && is c Zero)) (sym q) (to_is c Zero r))
-
-    and_left : (a b : Bool) → T (a && b) → T a
-    and_left true b h = tt
-    and_left false b h = h
-
-    and_right : (a b : Bool) → T (a && b) → T b
-    and_right true b h = h
-    and_right false b h = absurd h
 
     parts : (a b c : Sign) → T (is a Zero && (is b Zero && is c Zero)) → (a ≡ Zero) × ((b ≡ Zero) × (c ≡ Zero))
     parts a b c h = (

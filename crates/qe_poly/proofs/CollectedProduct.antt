@@ -117,11 +117,11 @@ length-entered p q =
 
 -- ---- where no product of coefficients leaves the range, all fit
 
-if_none : (b : Bool) (met : PolyLimit) (rest : Option PolyLimit) → limit_if b met rest ≡ None → (b ≡ false) × (rest ≡ None)
+pub if_none : (b : Bool) (met : PolyLimit) (rest : Option PolyLimit) → limit_if b met rest ≡ None → (b ≡ false) × (rest ≡ None)
 if_none true met rest none = absurd (cc)
 if_none false met rest none = (refl, none)
 
-else_none : (a b : Option PolyLimit) → or_else a b ≡ None → (a ≡ None) × (b ≡ None)
+pub else_none : (a b : Option PolyLimit) → or_else a b ≡ None → (a ≡ None) × (b ≡ None)
 else_none None b none = (refl, none)
 else_none (Some met) b none = absurd (cc)
 
@@ -165,10 +165,10 @@ over-is sum magnitude (c ∷ cs) =
       | false ↦ over-is next (magnitude + unsigned_abs c) cs
     ]
 
-magnitude_sum : (a b : ℤ) → unsigned_abs (a +ℤ b) ≤ unsigned_abs a + unsigned_abs b
+pub magnitude_sum : (a b : ℤ) → unsigned_abs (a +ℤ b) ≤ unsigned_abs a + unsigned_abs b
 magnitude_sum a b = omega (arith, ints)
 
-at_most : (a b : ℕ) → ltb a b ≡ false → b ≤ a
+pub at_most : (a b : ℕ) → ltb a b ≡ false → b ≤ a
 at_most a b test = omega (arith, ltb-false)
 
 sum-is : (sum : ℤ) (magnitude : ℕ) (cs : List ℤ) → unsigned_abs sum ≤ magnitude → magnitude_limit magnitude cs ≡ None → (tally_on (within sum magnitude) cs).sum ≡ sum +ℤ total cs

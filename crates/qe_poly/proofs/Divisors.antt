@@ -9,6 +9,8 @@ use Rattle.std.proofs.lemmas.Bool.Decides.{nat_tests, Decides-int_eq}
 use Rattle.std.specs.Ordering.{int_eq}
 use Rattle.std.specs.Int.{◌∣◌, IsGcd}
 use Rattle.std.specs.Int.RustNames.{int_div, int_rem}
+use Rattle.qe_ring.proofs.Bools.{no_way, both_hold}
+use Rattle.qe_coef.proofs.Quotient.{abs_positive}
 use Rattle.qe_ring.proofs.Ints.{int_ring}
 use Rattle.qe_coef.specs.Range.{Divides}
 use Rattle.qe_poly.specs.Monomial.{Monomial}
@@ -17,11 +19,6 @@ use Rattle.qe_poly.specs.Value.{scaled}
 use Rattle.qe_poly.specs.Primitive.{divides_each, greatest_divisor, content, leads_negative, negated_if, divided, primitive, IsMultiple, DividesEach, IsContent, IsOwnPrimitive}
 
 -- ---- quotients
-
-abs_positive : (d : ℤ) → d ≢ pos 0 → 0 < unsigned_abs d
-abs_positive (pos zero) other = absurd (other refl)
-abs_positive (pos (suc n)) other = omega arith
-abs_positive (negsuc n) other = omega arith
 
 abs_zero : (d : ℤ) → unsigned_abs d ≡ 0 → d ≡ pos 0
 abs_zero (pos zero) none = refl
@@ -69,11 +66,7 @@ one_more d g h t ts A gcd before =
 divides_to : (d : ℕ) (p : Polynomial) → divides_each d p ≡ true → DividesEach d p
 divides_to d [] test = tt
 divides_to d (t ∷ ts) test =
-    let parts = both (eqb (unsigned_abs t.1 % d) 0) (divides_each d ts) test in (dvd_of_mod-eq-zero d (eqb-true (unsigned_abs t.1 % d) 0 parts.0), divides_to d ts parts.1)
-  where
-    both : (a b : Bool) → (a && b) ≡ true → (a ≡ true) × (b ≡ true)
-    both true b holds = (refl, holds)
-    both false b holds = absurd (cc)
+    let parts = both_hold (eqb (unsigned_abs t.1 % d) 0) (divides_each d ts) test in (dvd_of_mod-eq-zero d (eqb-true (unsigned_abs t.1 % d) 0 parts.0), divides_to d ts parts.1)
 
 divides_from : (d : ℕ) (p : Polynomial) → DividesEach d p → divides_each d p ≡ true
 divides_from d [] each = refl
@@ -89,11 +82,8 @@ greatest_is (suc n) g p divisors positive most =
     ] refl
   where
     less : divides_each (suc n) p ≡ false → g ≤ n
-    less test = by_cases (λ same. absurd (no_way (sym test ∙ divides_from (suc n) p (subst (λ k. DividesEach k p) same ((divisors g).0 (dvd_refl g))))))
+    less test = by_cases (λ same. no_way (sym test ∙ divides_from (suc n) p (subst (λ k. DividesEach k p) same ((divisors g).0 (dvd_refl g)))))
       where
-        no_way : false ≡ true → ⊥
-        no_way holds = absurd (cc)
-
         by_cases : (g ≡ suc n → g ≤ n) → g ≤ n
         by_cases last = grind (arith, nat_tests)
 

@@ -1,11 +1,11 @@
 -- The order of monomials is total, and only equal monomials tie.
-use Rattle.std.proofs.Common.{◌≡◌, refl, sym}
-use Rattle.std.specs.declared.cmp.Ordering.{Ordering}
-use Rattle.std.specs.declared.cmp.Ordering.TheVariants.{Less, Equal, Greater}
-use Rattle.std.specs.Ordering.{nat_cmp, ordering_then}
+use Rattle.std.proofs.Common.{◌≡◌, sym}
+use Rattle.std.specs.declared.cmp.Ordering.TheVariants.{Equal}
+use Rattle.std.specs.Ordering.{nat_cmp}
 use Rattle.std.specs.Cmp.{IsTotalOrder, nat_cmp_total, on_total, then_total, back_total}
 use Rattle.std.specs.FinMap.{nat_cmp-IsAntisymmetric, slice_cmp-IsAntisymmetric}
 use Rattle.std.proofs.lemmas.Cmp.{lists_total}
+use Rattle.qe_ring.proofs.Ties.{both_tie}
 use Rattle.qe_poly.specs.declared.monomial.Power.{Power}
 use Rattle.qe_poly.specs.Monomial.{Monomial, power_cmp, in_turn}
 
@@ -14,11 +14,6 @@ power_total = then_total (on_total (λ a. a.var.0) (back_total nat_cmp_total)) (
 
 pub turn_total : IsTotalOrder in_turn
 turn_total = back_total (lists_total power_total)
-
-both_tie : (r s : Ordering) → ordering_then r s ≡ Equal → (r ≡ Equal) × (s ≡ Equal)
-both_tie Less s tie = (tie, absurd (cc))
-both_tie Equal s tie = (refl, tie)
-both_tie Greater s tie = (tie, absurd (cc))
 
 power_same : (a b : Power) → power_cmp a b ≡ Equal → a ≡ b
 power_same a b tie =

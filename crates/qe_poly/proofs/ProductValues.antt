@@ -1,5 +1,5 @@
 -- The value of a product is the product of the values, in every ring.
-use Rattle.std.proofs.Common.{◌≡◌, refl, ap, subst, ℕ, zero, suc, ◌+◌, List, [], ◌∷◌, ◌++◌, map, ℤ, suc-add, zero-add}
+use Rattle.std.proofs.Common.{◌≡◌, refl, ap, ℕ, zero, suc, ◌+◌, List, [], ◌∷◌, ◌++◌, map, ℤ, suc-add, zero-add}
 use Rattle.std.specs.declared.cmp.Ordering.TheVariants.{Less, Equal, Greater}
 use Rattle.std.specs.Ordering.{nat_cmp}
 use Rattle.std.specs.FinMap.{nat_cmp-IsAntisymmetric}
@@ -7,6 +7,7 @@ use Rattle.std.specs.FinMap.Entries.{by_order}
 use Rattle.qe_ring.specs.Ring.{Operations, IsRing}
 use Rattle.qe_ring.specs.Expression.{var, nought, unit, ◌⊕◌, ◌⊗◌}
 use Rattle.qe_ring.proofs.Solver.{solve}
+use Rattle.qe_ring.proofs.Steps.{steps}
 use Rattle.qe_poly.specs.declared.monomial.Power.{Power}
 use Rattle.qe_poly.specs.Monomial.{Monomial, times, times_power}
 use Rattle.qe_poly.specs.Polynomial.{Term, Polynomial, pairs, pair_product, products, product}
@@ -20,22 +21,11 @@ map_append (p ∷ ps) qs = ap (λ ts. pair_product p ∷ ts) (map_append ps qs)
 module _ {C : Type 0} (o : Operations C) (E : C → C → Type 0) (R : IsRing o E) (point : ℕ → C) where
   open o use {one, add, mul}
   open R use {same, mul-assoc}
+  open (steps o E R) use {rev, add₂, mul₂, same_of_eq, past_mul}
 
   infixr 5 ◌▸◌
   ◌▸◌ : {a b c : C} → E a b → E b c → E a c
   ◌▸◌ {a} {b} {c} p q = R.then a b c p q
-
-  rev : {a b : C} → E a b → E b a
-  rev {a} {b} p = R.back a b p
-
-  add₂ : {a b c d : C} → E a b → E c d → E (add a c) (add b d)
-  add₂ {a} {b} {c} {d} p q = R.add-same a b c d p q
-
-  mul₂ : {a b c d : C} → E a b → E c d → E (mul a c) (mul b d)
-  mul₂ {a} {b} {c} {d} p q = R.mul-same a b c d p q
-
-  same_of_eq : {x y : C} → x ≡ y → E x y
-  same_of_eq {x} {y} p = subst (λ z. E x z) p (same x)
 
   abbrev at_monomial : Monomial → C
   at_monomial m = monomial_value o point m
@@ -51,9 +41,6 @@ module _ {C : Type 0} (o : Operations C) (E : C → C → Type 0) (R : IsRing o 
   -- (a * b) * (m * n) = (a * m) * (b * n)
   cross : (a b m n : C) → E (mul (mul a b) (mul m n)) (mul (mul a m) (mul b n))
   cross a b m n = solve o E R (a ∷ b ∷ m ∷ n ∷ []) (var 0 ⊗ var 1 ⊗ (var 2 ⊗ var 3)) (var 0 ⊗ var 2 ⊗ (var 1 ⊗ var 3)) refl
-
-  past_mul : (a b c : C) → E (mul a (mul b c)) (mul b (mul a c))
-  past_mul a b c = solve o E R (a ∷ b ∷ c ∷ []) (var 0 ⊗ (var 1 ⊗ var 2)) (var 1 ⊗ (var 0 ⊗ var 2)) refl
 
   -- ---- monomials
 

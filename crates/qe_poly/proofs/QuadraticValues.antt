@@ -5,6 +5,7 @@ use Rattle.std.proofs.lemmas.Bool.Decides.{nat_tests}
 use Rattle.qe_ring.specs.Ring.{Operations, IsRing}
 use Rattle.qe_ring.specs.Expression.{var, nought, ◌⊕◌, ◌⊗◌}
 use Rattle.qe_ring.proofs.Solver.{solve}
+use Rattle.qe_ring.proofs.Steps.{steps}
 use Rattle.qe_poly.specs.Monomial.{Monomial, IsMonomial, IsAbove}
 use Rattle.qe_poly.specs.Polynomial.{Term, Polynomial, IsPolynomial}
 use Rattle.qe_poly.specs.Coefficients.{exponent_of, without, degree_in, coefficient_in}
@@ -52,6 +53,7 @@ module _ {C : Type 0} (o : Operations C) (whole : ℤ → C) (point : ℕ → C)
 module _ {C : Type 0} (o : Operations C) (E : C → C → Type 0) (R : IsRing o E) (whole : ℤ → C) where
   open o use {one, add, mul}
   open R use {same, mul-one}
+  open (steps o E R) use {rev, add₂, mul₂, same_of_eq, past_mul}
 
   abbrev nil : C
   nil = o.zero
@@ -59,21 +61,6 @@ module _ {C : Type 0} (o : Operations C) (E : C → C → Type 0) (R : IsRing o 
   infixr 5 ◌▸◌
   ◌▸◌ : {a b c : C} → E a b → E b c → E a c
   ◌▸◌ {a} {b} {c} p q = R.then a b c p q
-
-  rev : {a b : C} → E a b → E b a
-  rev {a} {b} p = R.back a b p
-
-  add₂ : {a b c d : C} → E a b → E c d → E (add a c) (add b d)
-  add₂ {a} {b} {c} {d} p q = R.add-same a b c d p q
-
-  mul₂ : {a b c d : C} → E a b → E c d → E (mul a c) (mul b d)
-  mul₂ {a} {b} {c} {d} p q = R.mul-same a b c d p q
-
-  same_of_eq : {x y : C} → x ≡ y → E x y
-  same_of_eq {x} {y} p = subst (λ z. E x z) p (same x)
-
-  past_mul : (a b c : C) → E (mul a (mul b c)) (mul b (mul a c))
-  past_mul a b c = solve o E R (a ∷ b ∷ c ∷ []) (var 0 ⊗ (var 1 ⊗ var 2)) (var 1 ⊗ (var 0 ⊗ var 2)) refl
 
   moved : (c p m : C) → E (mul c (mul p m)) (mul (mul c m) p)
   moved c p m = solve o E R (c ∷ p ∷ m ∷ []) (var 0 ⊗ (var 1 ⊗ var 2)) (var 0 ⊗ var 2 ⊗ var 1) refl

@@ -16,7 +16,7 @@ use Rattle.qe_poly.specs.Occurs.{occurs_in}
 use Rattle.qe_poly.proofs.Order.{turn_total}
 use Rattle.qe_poly.proofs.Parts.{nat_less, nat_greater, above_lower, is_high-without, without-less, tie_no_way}
 use Rattle.qe_poly.proofs.Products.{IsMonomial-times}
-use Rattle.qe_poly.proofs.RenamedValues.{neither}
+use Rattle.qe_ring.proofs.Bools.{neither, both_fail}
 
 positive_test : (i : ℕ) → 0 < i → eqb i 0 ≡ false
 positive_test i more = grind (arith, nat_tests)
@@ -133,9 +133,6 @@ module _ (y : Var) where
   high_times e m low none plain = by_exponent e m (λ k. is_high k ≡ false) (λ zero. plain) (high_put e m low none plain)
 
 -- ---- y in the place of x
-
-both_fail : (s t : Bool) → s ≡ false → t ≡ false → (s || t) ≡ false
-both_fail s t p q = λ i. p i || q i
 
 stands_without : (x y : ℕ) (m : Monomial) → occurs_in y m ≡ false → occurs_in y (without x m) ≡ false
 stands_without x y [] none = refl

@@ -23,7 +23,7 @@ use Rattle.qe_poly.specs.Occurs.{occurs_in, occurs_in_some}
 use Rattle.qe_poly.proofs.Order.{turn_total, turn_same}
 use Rattle.qe_poly.proofs.Sorted.{Each, tied, less_back, below_first, below_rest, sorted_first}
 use Rattle.qe_poly.proofs.Canonical.{sorted_from, IsPolynomial-collected, coefficient-collected, same_polynomial}
-use Rattle.qe_poly.proofs.RenamedValues.{neither}
+use Rattle.qe_ring.proofs.Bools.{neither}
 use Rattle.qe_poly.proofs.RenamedMonomials.{IsMonomial-renamed, renamed_apart}
 
 -- ---- how often a monomial stands in terms

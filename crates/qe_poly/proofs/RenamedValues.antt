@@ -1,7 +1,9 @@
 -- The value of a polynomial with y in the place of x is its value where x has the value of y, in every ring.
-use Rattle.std.proofs.Common.{◌≡◌, refl, sym, ap, subst, ℕ, eqb, Bool, true, false, cond, not, ◌&&◌, ◌||◌, [], ◌∷◌, map, ℤ, arith}
+use Rattle.std.proofs.Common.{◌≡◌, refl, sym, ap, ℕ, eqb, true, false, cond, not, ◌&&◌, [], ◌∷◌, map, ℤ, arith}
 use Rattle.std.proofs.lemmas.Bool.Decides.{nat_tests}
+use Rattle.qe_ring.proofs.Bools.{neither}
 use Rattle.qe_ring.specs.Ring.{Operations, IsRing}
+use Rattle.qe_ring.proofs.Steps.{steps}
 use Rattle.qe_poly.specs.declared.monomial.Var.{Var}
 use Rattle.qe_poly.specs.Monomial.{Monomial, power}
 use Rattle.qe_poly.specs.Polynomial.{Polynomial}
@@ -12,10 +14,6 @@ use Rattle.qe_poly.proofs.Values.{collected-value, power-at}
 use Rattle.qe_poly.proofs.ProductValues.{times-value}
 
 -- ---- tests that fail
-
-pub neither : (s t : Bool) → (s || t) ≡ false → (s ≡ false) × (t ≡ false)
-neither true t none = absurd (cc)
-neither false t none = (refl, none)
 
 apart_back : (i j : ℕ) → eqb i j ≡ false → eqb j i ≡ false
 apart_back i j apart = grind (arith, nat_tests)
@@ -38,19 +36,11 @@ module _ {C : Type 0} (o : Operations C) (whole : ℤ → C) (point : ℕ → C)
 module _ {C : Type 0} (o : Operations C) (E : C → C → Type 0) (R : IsRing o E) (whole : ℤ → C) (W : IsWhole o E whole) (point : ℕ → C) (x y : Var) where
   open o use {one, add, mul}
   open R use {same}
+  open (steps o E R) use {add₂, mul₂, same_of_eq}
 
   infixr 5 ◌▸◌
   ◌▸◌ : {a b c : C} → E a b → E b c → E a c
   ◌▸◌ {a} {b} {c} p q = R.then a b c p q
-
-  add₂ : {a b c d : C} → E a b → E c d → E (add a c) (add b d)
-  add₂ {a} {b} {c} {d} p q = R.add-same a b c d p q
-
-  mul₂ : {a b c d : C} → E a b → E c d → E (mul a c) (mul b d)
-  mul₂ {a} {b} {c} {d} p q = R.mul-same a b c d p q
-
-  same_of_eq : {a b : C} → a ≡ b → E a b
-  same_of_eq {a} {b} p = subst (λ z. E a z) p (same a)
 
   -- x with the value of y
   abbrev new : ℕ → C

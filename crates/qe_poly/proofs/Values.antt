@@ -1,6 +1,6 @@
 -- The value of a sum, a negative or a multiple is the sum, the negative or the multiple of the values, in every ring;
 -- that of a constant is its number, and that of a power of a variable is the power of its value.
-use Rattle.std.proofs.Common.{◌≡◌, refl, sym, ap, subst, ℕ, zero, suc, true, false, cond, List, [], ◌∷◌, ◌++◌, map, ℤ, pos, ◌+ℤ◌, ◌*ℤ◌, eqb, arith}
+use Rattle.std.proofs.Common.{◌≡◌, refl, sym, ap, ℕ, zero, suc, true, false, cond, List, [], ◌∷◌, ◌++◌, map, ℤ, pos, ◌+ℤ◌, ◌*ℤ◌, eqb, arith}
 use Rattle.std.proofs.lemmas.Bool.Decides.{Decides-int_eq, nat_tests}
 use Rattle.std.specs.declared.cmp.Ordering.TheVariants.{Less, Equal, Greater}
 use Rattle.std.specs.Ordering.{int_eq}
@@ -8,6 +8,7 @@ use Rattle.std.specs.FinMap.Entries.{by_order}
 use Rattle.qe_ring.specs.Ring.{Operations, IsRing}
 use Rattle.qe_ring.specs.Expression.{var, nought, unit, ◌⊕◌, ◌⊗◌, ⊖◌}
 use Rattle.qe_ring.proofs.Solver.{solve}
+use Rattle.qe_ring.proofs.Steps.{steps}
 use Rattle.qe_poly.specs.declared.monomial.Var.{Var}
 use Rattle.qe_poly.specs.Monomial.{Monomial, in_turn, power}
 use Rattle.qe_poly.specs.Polynomial.{Term, Polynomial, Group, enter, with_first, gathered, total, nonzero, collected, constant, negative, sum, difference}
@@ -18,6 +19,7 @@ use Rattle.qe_poly.proofs.Order.{turn_same}
 module _ {C : Type 0} (o : Operations C) (E : C → C → Type 0) (R : IsRing o E) where
   open o use {one, add, neg, mul}
   open R use {same, add-assoc, add-zero, mul-assoc, mul-comm, mul-one, mul-add}
+  open (steps o E R) use {rev, add₂, mul₂, same_of_eq, nil-add, nil-mul, past}
 
   -- the ring's zero, beside that of ℕ
   abbrev nil : C
@@ -27,28 +29,7 @@ module _ {C : Type 0} (o : Operations C) (E : C → C → Type 0) (R : IsRing o 
   ◌▸◌ : {a b c : C} → E a b → E b c → E a c
   ◌▸◌ {a} {b} {c} p q = R.then a b c p q
 
-  rev : {a b : C} → E a b → E b a
-  rev {a} {b} p = R.back a b p
-
-  add₂ : {a b c d : C} → E a b → E c d → E (add a c) (add b d)
-  add₂ {a} {b} {c} {d} p q = R.add-same a b c d p q
-
-  mul₂ : {a b c d : C} → E a b → E c d → E (mul a c) (mul b d)
-  mul₂ {a} {b} {c} {d} p q = R.mul-same a b c d p q
-
-  same_of_eq : {x y : C} → x ≡ y → E x y
-  same_of_eq {x} {y} p = subst (λ z. E x z) p (same x)
-
   -- ---- steps of one term
-
-  nil-add : (a : C) → E (add nil a) a
-  nil-add a = solve o E R (a ∷ []) (nought ⊕ var 0) (var 0) refl
-
-  nil-mul : (a : C) → E (mul nil a) nil
-  nil-mul a = solve o E R (a ∷ []) (nought ⊗ var 0) nought refl
-
-  past : (a b c : C) → E (add a (add b c)) (add b (add a c))
-  past a b c = solve o E R (a ∷ b ∷ c ∷ []) (var 0 ⊕ (var 1 ⊕ var 2)) (var 1 ⊕ (var 0 ⊕ var 2)) refl
 
   -- a term's coefficient in two parts
   split : (c s m rest : C) → E (add (mul (add c s) m) rest) (add (mul c m) (add (mul s m) rest))

@@ -1,5 +1,7 @@
 pub mod Bools
+pub mod Ties
 pub mod Solver
+pub mod Steps
 pub mod Hypotheses
 pub mod Finite
 pub mod Signs

@@ -1,6 +1,7 @@
 -- Equal normal forms have equal values, in every ring: identities of rings by computing.
-use Rattle.std.proofs.Common.{◌≡◌, ℕ, zero, suc, ◌+◌, ◌*◌, Bool, true, false, cond, ◌&&◌, T, leb, eqb, eqb→eq, List, [], ◌∷◌, refl, sym, ap, ap₂, subst, ℤ, pos, negsuc, ◌+ℤ◌, ◌*ℤ◌, neg_ℤ, arith, zero-add, suc-add, zero-mul, suc-mul}
+use Rattle.std.proofs.Common.{◌≡◌, ℕ, zero, suc, ◌+◌, ◌*◌, Bool, true, false, cond, T, leb, eqb, eqb→eq, List, [], ◌∷◌, refl, sym, ap, ap₂, subst, ℤ, pos, negsuc, ◌+ℤ◌, ◌*ℤ◌, neg_ℤ, arith, zero-add, suc-add, zero-mul, suc-mul}
 use borrow.Author.Differences.{up, down, sum_is_lem, product_is, neg_is}
+use Rattle.qe_ring.proofs.Bools.{and_left, and_right}
 use Rattle.qe_ring.specs.Ring.{Operations, IsRing}
 use Rattle.qe_ring.specs.Expression.{Expression, var, nought, unit, constant, ◌⊕◌, ◌⊝◌, ⊖◌, ◌⊗◌, of_nat, of_int, entry, value, Term, term, same_list, less_list, is_zero, put_var, times_list, kept, put, plus, minus, scale, times, normal}
 
@@ -10,14 +11,6 @@ same_list-eq [] (y ∷ ys) h = absurd h
 same_list-eq (x ∷ xs) [] h = absurd h
 same_list-eq (x ∷ xs) (y ∷ ys) h = ap₂ ◌∷◌ (eqb→eq x y (and_left (eqb x y) (same_list xs ys) h))
     (same_list-eq xs ys (and_right (eqb x y) (same_list xs ys) h))
-  where
-    and_left : (a b : Bool) → T (a && b) → T a
-    and_left true b h = tt
-    and_left false b h = h
-
-    and_right : (a b : Bool) → T (a && b) → T b
-    and_right true b h = h
-    and_right false b h = absurd h
 
 cases : {A : Type 0} (P : A → Type 0) (b : Bool) (x y : A) → (T b → P x) → P y → P (cond b x y)
 cases P true x y p q = p tt
