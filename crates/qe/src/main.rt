@@ -41,9 +41,12 @@ fn outcome<S: Source, K: Sink>(
     sink: &mut K,
 ) -> Status
     ensures no_memory { IsErr words → (result ≡ Status.OutOfMemory) × (source.new ≡ source.old) }
-    ensures sink_kept { (result ≡ Status.ReadFault) ⊎ (result ≡ Status.OutOfMemory) → sink.new ≡ sink.old }
-    ensures words { IfOk words (λ all. AsksNothing (map string_bytes all.items) → source.new ≡ source.old) }
-    ensures answer { IfOk words (λ all. AsksNothing (map string_bytes all.items) → result ≢ Status.Ok) }
+    ensures sink_kept { (result ≡ Status.ReadFault) ⊎ (result ≡ Status.OutOfMemory)
+        → sink.new ≡ sink.old }
+    ensures words { IfOk words (λ all. AsksNothing (map string_bytes all.items)
+        → source.new ≡ source.old) }
+    ensures answer { IfOk words (λ all. AsksNothing (map string_bytes all.items)
+        → result ≢ Status.Ok) }
 {
     match words {
         Ok(words) => run_alone(alloc, &words, source, sink),

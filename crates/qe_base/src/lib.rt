@@ -14,6 +14,3 @@ pub use source::{Failed, Source};
 pub use standard::{StdSink, StdSource};
 pub use std::alloc::AllocError as OutOfMemory;
 pub use whole::{READ_LIMIT, ReadStop, read_all, write_all};
-
-#[cfg(test)]
-mod tests;

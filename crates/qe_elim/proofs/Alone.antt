@@ -2,27 +2,20 @@
 use Rattle.std.proofs.Common.{ℕ, zero, suc, ◌≡◌, ◌≢◌, ◌∙◌, sym, ap, refl, subst, ◌+◌, ◌^◌, ◌<◌, get_or, inl, inr, false, nat_eq, List, [], ◌∷◌, ◌++◌, map, drop, length, Result, Ok, Err, arith}
 use Rattle.std.specs.Prelude.{AllPairs}
 use Rattle.std.proofs.Math.Seq.{drop-cons, drop-length}
-use Rattle.std.proofs.lemmas.List.{drop-map}
 use Rattle.std.specs.List.{IsDistinct, AllByRecursion}
 use Rattle.std.proofs.lemmas.Bool.Decides.{Decides-eqb}
 use Rattle.std.proofs.lemmas.Map.Made.{AllPairs-from_IsDistinct}
-use Rattle.qe_poly.specs.Polynomial.{IsPolynomial}
-use Rattle.qe_poly.specs.declared.monomial.Var.{Var}
-use Rattle.qe_form.specs.Formula.{Formula, Ex, All}
+use Rattle.qe_form.specs.Formula.{Formula}
 use Rattle.qe_form.specs.Tree.{tree}
 use Rattle.qe_form.specs.Measures.{count}
 use Rattle.qe_form.specs.declared.form.Form.{Form}
-use Rattle.qe_form.specs.Same.{Same}
 use Rattle.qe_form.specs.Plain.{IsPlain}
-use Rattle.qe_simp.proofs.Shapes.{plain_weaker}
-use Rattle.qe_norm.specs.declared.prenex.Kind as code_kind
-use Rattle.qe_norm.specs.declared.prenex.Kind.TheVariants as kind
-use Rattle.qe_norm.specs.declared.prenex.Block as normal_form
-use Rattle.qe_norm.specs.Blocks.{quantified_each, meaning, variables}
+use Rattle.qe_form.specs.Blocks.{Block, under_each, under_blocks, bound_by}
 use Rattle.qe_tree.specs.Tree.{Step}
 use Rattle.qe_tree.specs.Sound.{IsFine, IsReady}
-use Rattle.qe_tree.specs.Block.{Block, quantified_by, prenex, opened, given, stopped, block_over, eliminated_from, eliminated, EachBlock, AtBlock, Fits, IsWithin, IsBeyond, IfGiven}
-use Rattle.qe_tree.proofs.Stands.{Stands, stands_same, stands_itself}
+use Rattle.qe_tree.specs.Block.{matrix_for, given, stopped, block_over, eliminated_from, eliminated, EachBlock, AtBlock, Fits, IsWithin, IsBeyond, IfGiven}
+use Rattle.qe_tree.proofs.Stands.{Stands, stands_itself}
+use Rattle.qe_tree.proofs.Growth.{fine_plain}
 use Rattle.qe_tree.proofs.Blocks.{StandsFine, block_stands}
 use Rattle.qe_tree.proofs.Small.{block_small}
 use Rattle.qe_node.specs.declared.stop.NodeStop.{NodeStop}
@@ -31,11 +24,8 @@ use Rattle.qe_elim.specs.declared.eliminate.Outcome.{Outcome}
 use Rattle.qe_elim.specs.declared.eliminate.ElimStop.{ElimStop}
 use Rattle.qe_elim.specs.declared.eliminate.ElimStop.TheVariants as stop
 use Rattle.qe_elim.specs.Search.{steps_of}
-use Rattle.qe_elim.specs.Answer.{quantifier_of, block_of, blocks_of, IsBlock, IsAnswer, IsNoLimit}
+use Rattle.qe_elim.specs.Answer.{IsBlock, IsAnswer, IsNoLimit}
 use Rattle.qe_elim.proofs.Soundness.{Good, sound}
-
-fine_plain : (f : Formula) → IsFine f → IsPlain f
-fine_plain f fine = plain_weaker (λ a. IsPolynomial a.poly) (λ a. Unit {0}) (λ a k. tt) f fine
 
 -- ---- numbers of blocks
 
@@ -71,7 +61,7 @@ module _ (m : Formula) where
     pub gives : eliminated_from expansion (suc left) (drop left bs) m ≡ given g
     pub fits : EachBlock expansion (Fits expansion limit) (suc left) (drop left bs) m
     pub plain : IsPlain g
-    pub stands : Stands (prenex (drop left bs) m) g
+    pub stands : Stands (under_blocks (drop left bs) m) g
 
   -- before the innermost block
   pub none_eliminated : (limit : ℕ) (bs : List Block) (g : Formula) → IsPlain m → g ≡ m → IsEliminated limit bs (length bs) g
@@ -79,7 +69,7 @@ module _ (m : Formula) where
     gives = ap (λ cs. eliminated_from expansion (suc (length bs)) cs m) none;
     fits = subst (λ cs. EachBlock expansion (Fits expansion limit) (suc (length bs)) cs m) (sym none) tt;
     plain = plain;
-    stands = subst (λ cs. Stands (prenex cs m) m) (sym none) (stands_itself m);
+    stands = subst (λ cs. Stands (under_blocks cs m) m) (sym none) (stands_itself m);
   })
     where
       none : drop (length bs) bs ≡ []
@@ -107,18 +97,18 @@ module _ (m : Formula) (limit : ℕ) (few : limit < 2 ^ 32) (bs : List Block) (k
   over_is : (n : ℕ) → n ≡ suc k → eliminated_from expansion (suc k) (drop k bs) m ≡ block_over expansion b n (given g)
   over_is n is = ap (λ cs. eliminated_from expansion (suc k) cs m) at ∙ ((λ i. block_over expansion b (suc k) (further i)) ∙ ap (λ j. block_over expansion b j (given g)) (sym is))
 
-  pub block_more : (n : ℕ) → n ≡ suc k → (f : Form) → IsBlock limit n b g (Ok f) → IsReady Good (opened b.kind g) → IsEliminated m limit bs k (tree f)
+  pub block_more : (n : ℕ) → n ≡ suc k → (f : Form) → IsBlock limit n b g (Ok f) → IsReady Good (matrix_for b.kind g) → IsEliminated m limit bs k (tree f)
   block_more n is f answer ready = record {
     gives = over_is n is ∙ answer.0;
     fits = subst (λ cs. EachBlock expansion (Fits expansion limit) (suc k) cs m) (sym at) (further_fit, subst (IfGiven expansion (Fits expansion limit b)) (sym further) answer.1);
     plain = fine_plain (tree f) after.fine;
-    stands = subst (λ cs. Stands (prenex cs m) (tree f)) (sym at) after.stands;
+    stands = subst (λ cs. Stands (under_blocks cs m) (tree f)) (sym at) after.stands;
   }
     where
-      after : StandsFine Good expansion sound (quantified_by b.kind b.vars (prenex rest m)) (tree f)
-      after = block_stands Good expansion sound b n (prenex rest m) g (tree f) (subst (λ cs. Stands (prenex cs m) g) (drop_next k bs b rest at) w.stands) ready answer.0
+      after : StandsFine Good expansion sound (under_each b.kind b.vars (under_blocks rest m)) (tree f)
+      after = block_stands Good expansion sound b n (under_blocks rest m) g (tree f) (subst (λ cs. Stands (under_blocks cs m) g) (drop_next k bs b rest at) w.stands) ready answer.0
 
-  pub more_small : (n : ℕ) (f : Form) → IsBlock limit n b g (Ok f) → IsReady Good (opened b.kind g) → count g < 2 ^ 50 → count (tree f) < 2 ^ 50
+  pub more_small : (n : ℕ) (f : Form) → IsBlock limit n b g (Ok f) → IsReady Good (matrix_for b.kind g) → count g < 2 ^ 50 → count (tree f) < 2 ^ 50
   more_small n f answer ready size = block_small Good expansion sound b n g (tree f) limit ready answer.0 answer.1 few size
 
   whole_stops : (j : ℕ) (path : List Step) (s : NodeStop) (cs : List Block) → drop k cs ≡ b ∷ rest → eliminated_from expansion 1 cs m ≡ stopped j path s → eliminated expansion cs m ≡ stopped j path s
@@ -143,11 +133,8 @@ module _ (m : Formula) (limit : ℕ) (few : limit < 2 ^ 32) (bs : List Block) (k
   block_stops n is stop.OutOfMemory answer = tt
 
 -- the block at a place of the code's list
-pub block_at : (items : List normal_form.Block) (k : ℕ) (b : normal_form.Block) → k < length items → b ≡ get_or items k b → drop k items ≡ b ∷ drop (suc k) items
+pub block_at : (items : List Block) (k : ℕ) (b : Block) → k < length items → b ≡ get_or items k b → drop k items ≡ b ∷ drop (suc k) items
 block_at items k b within is = drop-cons items k b within ∙ ap (λ c. c ∷ drop (suc k) items) (sym is)
-
-pub blocks_at : (items : List normal_form.Block) (k : ℕ) (b : normal_form.Block) → k < length items → b ≡ get_or items k b → drop k (blocks_of items) ≡ block_of b ∷ blocks_of (drop (suc k) items)
-blocks_at items k b within is = drop-map block_of k items ∙ ap blocks_of (block_at items k b within is)
 
 -- where a block has at most the limit's number of distinct nodes, it does not have more
 never_beyond : (limit k n : ℕ) (bs : List Block) (m : Formula) → EachBlock expansion (IsWithin expansion limit) n bs m → AtBlock expansion (IsBeyond expansion limit) (Fits expansion limit) k n bs m → ⊥
@@ -163,24 +150,6 @@ complete limit bs m (Ok outcome) answer each = tt
 complete limit bs m (Err (stop.Node k path s)) answer each = tt
 complete limit bs m (Err (stop.NodeLimit k most)) answer each = never_beyond limit k 1 bs m each answer.1
 complete limit bs m (Err stop.OutOfMemory) answer each = tt
-
--- ---- what is given means the same
-
-quantified_is : (b : normal_form.Block) (f : Formula) → quantified_each b.kind b.vars f ≡ quantified_by (quantifier_of b.kind) (block_of b).vars f
-quantified_is b f = by_kind b.kind b.vars
-  where
-    by_kind : (k : code_kind.Kind) (xs : List Var) → quantified_each k xs f ≡ quantified_by (quantifier_of k) (map (λ x. x.0) xs) f
-    by_kind kind.Ex [] = refl
-    by_kind kind.Ex (x ∷ xs) = ap (Ex x.0) (by_kind kind.Ex xs)
-    by_kind kind.All [] = refl
-    by_kind kind.All (x ∷ xs) = ap (All x.0) (by_kind kind.All xs)
-
-meaning_is : (bs : List normal_form.Block) (f : Formula) → meaning bs f ≡ prenex (blocks_of bs) f
-meaning_is [] f = refl
-meaning_is (b ∷ bs) f = quantified_is b (meaning bs f) ∙ ap (quantified_by (quantifier_of b.kind) (block_of b).vars) (meaning_is bs f)
-
-pub stands_for_blocks : (bs : List normal_form.Block) (m g : Formula) → Stands (prenex (blocks_of bs) m) g → Same (meaning bs m) g
-stands_for_blocks bs m g s = subst (λ f. Same f g) (sym (meaning_is bs m)) (stands_same (prenex (blocks_of bs) m) g s)
 
 -- ---- the variables of a block are distinct
 
@@ -198,11 +167,11 @@ unfolding IsDistinct
 distinct_back [] ys distinct = distinct
 distinct_back (x ∷ xs) ys distinct = distinct_back xs ys distinct.1
 
-distinct_at : (bs : List normal_form.Block) (k : ℕ) (b : normal_form.Block) (rest : List normal_form.Block) → drop k bs ≡ b ∷ rest → IsDistinct nat_eq (variables bs) → IsDistinct nat_eq (map (λ x. x.0) b.vars)
+distinct_at : (bs : List Block) (k : ℕ) (b : Block) (rest : List Block) → drop k bs ≡ b ∷ rest → IsDistinct nat_eq (bound_by bs) → IsDistinct nat_eq b.vars
 distinct_at [] zero b rest same distinct = absurd (cc)
 distinct_at [] (suc k) b rest same distinct = absurd (cc)
-distinct_at (c ∷ bs) zero b rest same distinct = let first : c ≡ b = cc in subst (λ d. IsDistinct nat_eq (map (λ x. x.0) d.vars)) first (distinct_front (map (λ x. x.0) c.vars) (variables bs) distinct)
-distinct_at (c ∷ bs) (suc k) b rest same distinct = distinct_at bs k b rest same (distinct_back (map (λ x. x.0) c.vars) (variables bs) distinct)
+distinct_at (c ∷ bs) zero b rest same distinct = let first : c ≡ b = cc in subst (λ d. IsDistinct nat_eq d.vars) first (distinct_front c.vars (bound_by bs) distinct)
+distinct_at (c ∷ bs) (suc k) b rest same distinct = distinct_at bs k b rest same (distinct_back c.vars (bound_by bs) distinct)
 
-pub block_distinct : (bs : List normal_form.Block) (k : ℕ) (b : normal_form.Block) (rest : List normal_form.Block) → drop k bs ≡ b ∷ rest → IsDistinct nat_eq (variables bs) → AllPairs (λ x y. x ≢ y) (map (λ x. x.0) b.vars)
-block_distinct bs k b rest same distinct = AllPairs-from_IsDistinct {eq = nat_eq} Decides-eqb (map (λ x. x.0) b.vars) (distinct_at bs k b rest same distinct)
+pub block_distinct : (bs : List Block) (k : ℕ) (b : Block) (rest : List Block) → drop k bs ≡ b ∷ rest → IsDistinct nat_eq (bound_by bs) → AllPairs (λ x y. x ≢ y) b.vars
+block_distinct bs k b rest same distinct = AllPairs-from_IsDistinct {eq = nat_eq} Decides-eqb b.vars (distinct_at bs k b rest same distinct)

@@ -5,10 +5,12 @@ use Rattle.std.proofs.lemmas.Bool.{eqb-true}
 use Rattle.std.proofs.lemmas.List.{map-append, reverse-append}
 use Rattle.qe_form.specs.Formula.{Formula}
 use Rattle.qe_form.specs.Measures.{Has}
-use Rattle.qe_tree.specs.Variables.{occurs, remaining}
-use Rattle.qe_tree.specs.Tree.{Step, Place, is_empty, unless_leaf, below, failure, is_among, is_true, nodes, leaves, or_fails, first_failure, has_true_leaf, first_places}
+use Rattle.qe_form.specs.Measures.{occurs}
+use Rattle.qe_tree.specs.Variables.{remaining}
+use Rattle.qe_form.specs.Making.{is_true}
+use Rattle.qe_tree.specs.Tree.{Step, Place, is_empty, unless_leaf, below, failure, is_among, nodes, leaves, or_fails, first_failure, has_true_leaf, first_places}
 use Rattle.qe_tree.specs.Sound.{Each, forms_of, IsSound}
-use Rattle.qe_tree.proofs.Occurs.{occurs_is_has}
+use Rattle.qe_form.proofs.Occurring.{occurs_is_has}
 use Rattle.qe_tree.proofs.Walks.{with_step, leaf, fails, grows, kind_of}
 use Rattle.qe_tree.proofs.Searching.{forms, forms-append, walks, children, Searching, starts, ends, skips, finds, visits, less_left, less_skipped}
 use Rattle.qe_tree.proofs.Ends as tree_ends

@@ -1,27 +1,15 @@
 -- What eliminating the blocks of a prenex form answers.
-use Rattle.std.specs.Prelude.{ℕ, ◌≡◌, List, map, Result, Ok, Err}
+use Rattle.std.specs.Prelude.{ℕ, ◌≡◌, List, Result, Ok, Err}
 use Rattle.qe_form.specs.Formula.{Formula}
 use Rattle.qe_form.specs.Tree.{tree}
 use Rattle.qe_form.specs.declared.form.Form.{Form}
-use Rattle.qe_norm.specs.declared.prenex.Kind as norm
-use Rattle.qe_norm.specs.declared.prenex.Kind.TheVariants as kind
-use Rattle.qe_norm.specs.declared.prenex.Block as normal_form
-use Rattle.qe_tree.specs.Block.{Quantifier, exists, for_all, Block, given, stopped, block_over, eliminated, EachBlock, AtBlock, Fits, IsWithin, IsBeyond}
+use Rattle.qe_form.specs.Blocks.{Block}
+use Rattle.qe_tree.specs.Block.{given, stopped, block_over, eliminated, EachBlock, AtBlock, Fits, IsWithin, IsBeyond}
 use Rattle.qe_node.specs.Successors.{expansion}
 use Rattle.qe_elim.specs.Search.{steps_of}
 use Rattle.qe_elim.specs.declared.eliminate.Outcome.{Outcome}
 use Rattle.qe_elim.specs.declared.eliminate.ElimStop.{ElimStop}
 use Rattle.qe_elim.specs.declared.eliminate.ElimStop.TheVariants as stop
-
-abbrev pub quantifier_of : norm.Kind → Quantifier
-quantifier_of kind.Ex = exists
-quantifier_of kind.All = for_all
-
-abbrev pub block_of : normal_form.Block → Block
-block_of b = record { kind = quantifier_of b.kind; vars = map (λ x. x.0) b.vars }
-
-abbrev pub blocks_of : List normal_form.Block → List Block
-blocks_of bs = map block_of bs
 
 -- ---- a block
 
@@ -38,7 +26,7 @@ IsBlock limit n b m (Err stop.OutOfMemory) = Unit {0}
 -- A form is what elimination gives, and each block's tree has a True leaf or at most the limit's number of
 -- distinct nodes. A failing node is the first of its block, whose tree has at most that number; the limit
 -- is met at a block whose tree has more. In both cases the blocks further in give that block's matrix, and
--- the tree of each of them has a True leaf or at most that number. Want of memory may come in place of each.
+-- the tree of each of them has a True leaf or at most that number. Or out of memory, in place of each.
 abbrev pub IsAnswer : ℕ → List Block → Formula → Result Outcome ElimStop → Type 0
 IsAnswer limit bs m (Ok outcome) = (eliminated expansion bs m ≡ given (tree outcome.form)) × EachBlock expansion (Fits expansion limit) 1 bs m
 IsAnswer limit bs m (Err (stop.Node k path s)) =

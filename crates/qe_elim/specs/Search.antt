@@ -5,7 +5,8 @@ use Rattle.qe_form.specs.Formula.{Formula}
 use Rattle.qe_form.specs.Tree.{tree}
 use Rattle.qe_tree.specs.Variables.{remaining}
 use Rattle.qe_tree.specs.Expanded.{successors, failed}
-use Rattle.qe_tree.specs.Tree.{Step, unless_leaf, grown, failure_of, is_among, is_true, has_true_leaf, nodes, leaves, first_failure}
+use Rattle.qe_form.specs.Making.{is_true}
+use Rattle.qe_tree.specs.Tree.{Step, unless_leaf, grown, failure_of, is_among, has_true_leaf, nodes, leaves, first_failure}
 use Rattle.qe_piece.specs.declared.maker.Next.{Next}
 use Rattle.qe_node.specs.declared.stop.NodeStop.{NodeStop}
 use Rattle.qe_node.specs.Node.{Sight}

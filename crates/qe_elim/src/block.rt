@@ -1,13 +1,14 @@
 //! Elimination of one block.
 
-ghost use Rattle.std.specs.Prelude.{◌≡◌, ◌≢◌, ◌≤◌, ◌<◌, ◌^◌, length, map, AllPairs, IfOk};
+ghost use Rattle.std.specs.Prelude.{◌≡◌, ◌≢◌, ◌≤◌, ◌<◌, ◌^◌, length, AllPairs, IfOk};
 ghost use Rattle.qe_form.specs.Tree.{tree};
 ghost use Rattle.qe_form.specs.Measures.{count};
 ghost use Rattle.qe_form.specs.Plain.{IsPlain};
 ghost use Rattle.qe_simp.specs.Shape.{IsSimplified};
+ghost use Rattle.qe_norm.specs.Blocks.{kind_of};
 ghost use Rattle.qe_tree.specs.Block as spec;
 ghost use Rattle.qe_tree.specs.Sound.{IsReady};
-ghost use Rattle.qe_elim.specs.Answer.{quantifier_of, block_of, IsBlock};
+ghost use Rattle.qe_elim.specs.Answer.{IsBlock};
 
 use crate::OutOfMemory;
 use crate::eliminate::ElimStop;
@@ -21,9 +22,9 @@ use std::alloc::Global;
 fn root_of(alloc: Global, kind: Kind, matrix: Form) -> Result<Form, OutOfMemory>
     requires plain { IsPlain (tree matrix) }
     requires small { count (tree matrix) < 2 ^ 50 }
-    ensures exact { IfOk result (λ f. tree f ≡ spec.root (quantifier_of kind) (tree matrix)) }
+    ensures exact { IfOk result (λ f. tree f ≡ spec.root (kind_of kind) (tree matrix)) }
     ensures simplified { IfOk result (λ f. IsSimplified (tree f)) }
-    ensures ready { IfOk result (λ _. IsReady IsSimplified (spec.opened (quantifier_of kind) (tree matrix))) }
+    ensures ready { IfOk result (λ _. IsReady IsSimplified (spec.matrix_for (kind_of kind) (tree matrix))) }
     ensures small { IfOk result (λ f. count (tree f) < 2 ^ 50) }
 {
     match kind {
@@ -34,7 +35,7 @@ fn root_of(alloc: Global, kind: Kind, matrix: Form) -> Result<Form, OutOfMemory>
 
 /// What the block gives where its tree gives this formula: for `all` its simplified negation.
 fn closed(alloc: Global, kind: Kind, form: Form) -> Result<Form, OutOfMemory>
-    ensures { IfOk result (λ f. tree f ≡ spec.closed (quantifier_of kind) (tree form)) }
+    ensures { IfOk result (λ f. tree f ≡ spec.result_for (kind_of kind) (tree form)) }
 {
     match kind {
         Kind::Ex => Ok(form),
@@ -50,12 +51,12 @@ pub fn eliminate_block(
     matrix: Form,
     limit: u32,
 ) -> Result<Form, ElimStop>
-    requires distinct { AllPairs (λ x y. x ≢ y) (map (λ v. v.0) block.now.vars) }
+    requires distinct { AllPairs (λ x y. x ≢ y) block.now.vars }
     requires short { length block.now.vars ≤ 65536 }
     requires plain { IsPlain (tree matrix) }
     requires small { count (tree matrix) < 2 ^ 50 }
-    ensures answer { IsBlock limit number (block_of block.now) (tree matrix) result }
-    ensures ready { IfOk result (λ _. IsReady IsSimplified (spec.opened (quantifier_of block.now.kind) (tree matrix))) }
+    ensures answer { IsBlock limit number block.now (tree matrix) result }
+    ensures ready { IfOk result (λ _. IsReady IsSimplified (spec.matrix_for block.now.kind (tree matrix))) }
 {
     let root = root_of(alloc, block.kind, matrix)?;
     match search(alloc, block.vars.items(), root, limit) {

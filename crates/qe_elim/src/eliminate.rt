@@ -7,10 +7,10 @@ ghost use Rattle.qe_form.specs.Measures.{count};
 ghost use Rattle.qe_form.specs.Plain.{IsPlain};
 ghost use Rattle.qe_form.specs.Same.{Same, HasNoQuantifier};
 ghost use Rattle.qe_norm.specs.Prenex.{stands_for};
-ghost use Rattle.qe_norm.specs.Blocks.{variables};
+ghost use Rattle.qe_form.specs.Blocks.{bound_by};
 ghost use Rattle.qe_tree.specs.Block.{EachBlock, IsWithin};
 ghost use Rattle.qe_node.specs.Successors.{expansion};
-ghost use Rattle.qe_elim.specs.Answer.{blocks_of, IsAnswer, IsNoLimit};
+ghost use Rattle.qe_elim.specs.Answer.{IsAnswer, IsNoLimit};
 
 use crate::block::eliminate_block;
 use crate::step::Step;
@@ -56,12 +56,12 @@ impl From<AllocError> for ElimStop {
 
 /// Eliminates the blocks of a prenex form from the innermost.
 fn eliminate_blocks(alloc: Global, prenex: &Prenex, limit: u32) -> Result<Outcome, ElimStop>
-    requires distinct { IsDistinct nat_eq (variables prenex.now.blocks.items) }
+    requires distinct { IsDistinct nat_eq (bound_by prenex.now.blocks.items) }
     requires few { length prenex.now.blocks.items < 2 ^ 32 - 1 }
     requires short { All (λ b. length b.vars ≤ 65536) prenex.now.blocks.items }
     requires plain { IsPlain (tree prenex.now.matrix) }
     requires small { count (tree prenex.now.matrix) < 2 ^ 50 }
-    ensures answer { IsAnswer limit (blocks_of prenex.now.blocks.items) (tree prenex.now.matrix) result }
+    ensures answer { IsAnswer limit prenex.now.blocks.items (tree prenex.now.matrix) result }
     ensures same { IfOk result (λ o. Same (stands_for prenex.now) (tree o.form)) }
     ensures plain { IfOk result (λ o. IsPlain (tree o.form)) }
 {
@@ -88,14 +88,14 @@ fn eliminate_blocks(alloc: Global, prenex: &Prenex, limit: u32) -> Result<Outcom
 /// the limit and none that was visited is a True leaf. Either is told of the innermost block where it comes. The method is that
 /// of Loos and Weispfenning 1993 and of Weispfenning 1997.
 pub fn eliminate_alone(alloc: Global, prenex: &Prenex, limit: u32) -> Result<Outcome, ElimStop>
-    requires distinct { IsDistinct nat_eq (variables prenex.now.blocks.items) }
+    requires distinct { IsDistinct nat_eq (bound_by prenex.now.blocks.items) }
     requires few { length prenex.now.blocks.items < 2 ^ 32 - 1 }
     requires short { All (λ b. length b.vars ≤ 65536) prenex.now.blocks.items }
     requires plain { IsPlain (tree prenex.now.matrix) }
     requires small { count (tree prenex.now.matrix) < 2 ^ 50 }
     requires some { 1 ≤ limit }
-    ensures answer { IsAnswer limit (blocks_of prenex.now.blocks.items) (tree prenex.now.matrix) result }
-    ensures complete { EachBlock expansion (IsWithin expansion limit) 1 (blocks_of prenex.now.blocks.items) (tree prenex.now.matrix) → IsNoLimit result }
+    ensures answer { IsAnswer limit prenex.now.blocks.items (tree prenex.now.matrix) result }
+    ensures complete { EachBlock expansion (IsWithin expansion limit) 1 prenex.now.blocks.items (tree prenex.now.matrix) → IsNoLimit result }
     ensures same { IfOk result (λ o. Same (stands_for prenex.now) (tree o.form)) }
     ensures plain { IfOk result (λ o. IsPlain (tree o.form)) }
     ensures no_quantifier { IfOk result (λ o. HasNoQuantifier (tree o.form)) }

@@ -16,3 +16,4 @@ pub mod OrderLaws
 pub mod Laws
 pub mod Holds
 pub mod HoldsLaws
+pub mod Blocks

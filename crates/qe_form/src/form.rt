@@ -34,7 +34,7 @@ pub enum Form {
 }
 
 impl Atom {
-    /// The same atom in memory of its own. `Err` for want of memory alone.
+    /// The same atom in memory of its own. `Err` only where memory runs out.
     pub fn copy(&self, alloc: Global) -> Result<Atom, OutOfMemory>
         ensures { IfOk result (λ a. a ≡ self.now) }
     {
@@ -46,7 +46,7 @@ impl Atom {
 }
 
 impl Form {
-    /// The same formula in memory of its own. `Err` for want of memory alone.
+    /// The same formula in memory of its own. `Err` only where memory runs out.
     #[cycle(copy)]
     pub fn copy(&self, alloc: Global) -> Result<Form, OutOfMemory>
         ensures { IfOk result (λ f. tree f ≡ tree self.now) }

@@ -34,7 +34,7 @@ impl Names {
         }
     }
 
-    /// Names the next variable. For want of memory the names are as before and the new one is dropped.
+    /// Names the next variable. Where memory runs out the names are as before and the new one is dropped.
     pub fn push(&mut self, name: String) -> Result<(), OutOfMemory>
         requires { length self.old < 2 ^ 32 - 1 }
         ensures ok { OnOk result (self.new ≡ self.old ++ string_bytes name ∷ []) }

@@ -9,7 +9,7 @@ use std::alloc::Global;
 
 impl Form {
     /// The negation, moved to the atoms: constants change places, and so do And and Or; an atom has the complement of its
-    /// signs. Any other formula stands under Not. `Err` for want of memory alone.
+    /// signs. Any other formula stands under Not. `Err` only where memory runs out.
     #[cycle(negated)]
     pub fn negated(self, alloc: Global) -> Result<Form, OutOfMemory>
         ensures exact { IfOk result (λ f. tree f ≡ negated (tree self)) }

@@ -58,7 +58,7 @@ impl<T> Sequence<T> {
 }
 
 impl<T: Drop> Sequence<T> {
-    /// Appends an item. For want of memory the list is as before and the item is dropped.
+    /// Appends an item. Where memory runs out the list is as before and the item is dropped.
     pub fn push(&mut self, item: T) -> Result<(), OutOfMemory>
         ensures ok { OnOk result (self.new ≡ self.old ++ item ∷ []) }
         ensures err { OnErr result (self.new ≡ self.old) }

@@ -68,15 +68,17 @@ fn push_point(out: &mut String, point: &Point) -> Result<(), OutOfMemory> {
     }
 }
 
+fn push_guarded(out: &mut String, found: &GuardedPoint) -> Result<(), OutOfMemory> {
+    push_form(out, &found.guard)?;
+    out.push_str(": ")?;
+    push_point(out, &found.point)
+}
+
 /// The guard, and then the point; `none` where there is none.
-fn guarded_text(alloc: Global, found: Option<GuardedPoint>) -> Result<String, OutOfMemory> {
+fn guarded_text(alloc: Global, found: &Option<GuardedPoint>) -> Result<String, OutOfMemory> {
     let mut out = String::new(alloc);
     match found {
-        Some(found) => {
-            push_form(&mut out, &found.guard)?;
-            out.push_str(": ")?;
-            push_point(&mut out, &found.point)?;
-        }
+        Some(found) => push_guarded(&mut out, found)?,
         None => out.push_str("none")?,
     }
     Ok(out)
@@ -203,7 +205,7 @@ fn found_text(
 ) -> Result<String, SubstStop> {
     let poly = general(alloc, numbers)?;
     let found = guarded_root(alloc, poly, which, plus)?;
-    Ok(guarded_text(alloc, found)?)
+    Ok(guarded_text(alloc, &found)?)
 }
 
 /// The guard and the point of the candidate at a root, as text.

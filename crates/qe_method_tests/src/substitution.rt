@@ -59,9 +59,10 @@ fn poly_text(
     coefficients: [Linear; 3],
     bits: u8,
     point: &Point,
+    own: Option<&Poly>,
 ) -> Result<String, PolyStop> {
     let poly = quadratic(alloc, coefficients)?;
-    Ok(atom_text(alloc, poly, bits, point, None)?)
+    Ok(atom_text(alloc, poly, bits, point, own)?)
 }
 
 /// What stands for an atom at a root, or just above it.
@@ -73,7 +74,7 @@ fn root_text(
     plus: bool,
 ) -> Result<String, PolyStop> {
     let point = point_of(alloc, parts, plus)?;
-    poly_text(alloc, coefficients, bits, &point)
+    poly_text(alloc, coefficients, bits, &point, None)
 }
 
 /// What stands for an atom at 0, or just above it, as the root of 2*b*x.
@@ -85,8 +86,7 @@ fn own_text(
 ) -> Result<String, PolyStop> {
     let own = quadratic(alloc, [ZERO, TWICE_B, ZERO])?;
     let point = point_of(alloc, [ZERO, ZERO, ZERO, TWICE_B], plus)?;
-    let poly = quadratic(alloc, coefficients)?;
-    Ok(atom_text(alloc, poly, bits, &point, Some(&own))?)
+    poly_text(alloc, coefficients, bits, &point, Some(&own))
 }
 
 // At a, a root without a square root, and just above it: the coefficients of x^2, x and 1, the relation, and what stands for the atom.
@@ -244,7 +244,7 @@ fn substitutes_minus_infinity(rt: HostRuntime) {
     for (coefficients, bits, want) in BELOW {
         assert!(rt;
             is_text(
-                poly_text(rt.alloc(), *coefficients, *bits, &Point::MinusInf),
+                poly_text(rt.alloc(), *coefficients, *bits, &Point::MinusInf, None),
                 want
             )
         );

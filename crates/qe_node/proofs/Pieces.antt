@@ -12,7 +12,7 @@ use Rattle.qe_node.specs.declared.stop.NodeStop.{NodeStop}
 use Rattle.qe_node.specs.Node.{Sight}
 use Rattle.qe_node.specs.key.Code.{sight_key, sight_of}
 use Rattle.qe_node.specs.Answer.{expansion_of, numbered_nodes, IsExpansion}
-use Rattle.qe_node.specs.Piece.{is_leaf, is_true_leaf, height_of, by_keys, meaning_of}
+use Rattle.qe_node.specs.Piece.{is_leaf_node, is_true_node, height_of, by_keys, meaning_of}
 use Rattle.qe_node.specs.lemmas.Code.{sight-back}
 use Rattle.qe_tree.specs.Tree.{is_empty}
 use Rattle.qe_form.specs.Making.{is_true}
@@ -41,15 +41,15 @@ module _ (n : Sight) (vs items : List Var) (g : Formula) (view : record { vars =
   empty_is [] = refl
   empty_is (u ∷ us) = grind (arith, nat_tests)
 
-  pub leaf_is : (b : Bool) → b ≡ eqb (length items) 0 → b ≡ is_leaf (sight_of (sight_key n))
-  leaf_is b is = is ∙ (empty_is items ∙ sym (ap is_leaf seen))
+  pub leaf_is : (b : Bool) → b ≡ eqb (length items) 0 → b ≡ is_leaf_node (sight_of (sight_key n))
+  leaf_is b is = is ∙ (empty_is items ∙ sym (ap is_leaf_node seen))
 
-  pub true_is : (e b : Bool) → e ≡ eqb (length items) 0 → e ≡ true → b ≡ is_true g → b ≡ is_true_leaf (sight_of (sight_key n))
+  pub true_is : (e b : Bool) → e ≡ eqb (length items) 0 → e ≡ true → b ≡ is_true g → b ≡ is_true_node (sight_of (sight_key n))
   true_is e b empty holds is =
-      is ∙ (ap (λ c. c && is_true g) (sym holds ∙ (empty ∙ empty_is items)) ∙ sym (ap is_true_leaf seen))
+      is ∙ (ap (λ c. c && is_true g) (sym holds ∙ (empty ∙ empty_is items)) ∙ sym (ap is_true_node seen))
 
-  pub other_is : (e : Bool) → e ≡ eqb (length items) 0 → e ≡ false → e ≡ is_true_leaf (sight_of (sight_key n))
-  other_is e empty filled = filled ∙ (ap (λ c. c && is_true g) (sym filled ∙ (empty ∙ empty_is items)) ∙ sym (ap is_true_leaf seen))
+  pub other_is : (e : Bool) → e ≡ eqb (length items) 0 → e ≡ false → e ≡ is_true_node (sight_of (sight_key n))
+  other_is e empty filled = filled ∙ (ap (λ c. c && is_true g) (sym filled ∙ (empty ∙ empty_is items)) ∙ sym (ap is_true_node seen))
 
   length_is : (us : List Var) → length us ≡ length (numbers us)
   length_is [] = refl

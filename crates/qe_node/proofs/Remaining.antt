@@ -10,8 +10,9 @@ use Rattle.qe_poly.specs.declared.monomial.Var.{Var}
 use Rattle.qe_form.specs.Formula.{Formula}
 use Rattle.qe_form.specs.Measures.{Has, count}
 use Rattle.qe_form.specs.Plain.{IsPlainAndProper}
-use Rattle.qe_tree.specs.Variables.{occurs, remaining}
-use Rattle.qe_tree.proofs.Occurs.{occurs_is_has}
+use Rattle.qe_form.specs.Measures.{occurs}
+use Rattle.qe_tree.specs.Variables.{remaining}
+use Rattle.qe_form.proofs.Occurring.{occurs_is_has}
 use Rattle.qe_node.specs.Node.{IsNode}
 use Rattle.qe_node.specs.Answer.{others}
 use Rattle.qe_node.specs.lemmas.Piece.{filtered_short}

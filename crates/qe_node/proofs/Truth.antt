@@ -9,10 +9,9 @@ use Rattle.qe_form.specs.Tree.{trees_of}
 use Rattle.qe_form.specs.Truth.{Is}
 use Rattle.qe_simp.specs.Shape.{IsSimplified}
 use Rattle.qe_simp.proofs.Shapes.{simplified_no_quantifier}
-use Rattle.qe_tree.specs.Variables.{remaining, under_ex}
+use Rattle.qe_tree.specs.Variables.{remaining, under_ex, existential_closure}
 use Rattle.qe_tree.specs.Expanded.{Expanded, successors, failed}
 use Rattle.qe_tree.specs.Sound.{Each, IsFine, forms_of, IsGrown}
-use Rattle.qe_tree.specs.Laws.{whole}
 use Rattle.qe_tree.proofs.Growth.{fine_no_quantifier, grown_keeps_truth}
 use Rattle.qe_piece.specs.declared.maker.Next.{Next}
 use Rattle.qe_node.specs.declared.stop.NodeStop.{NodeStop}
@@ -31,7 +30,7 @@ numbered_wholes (n ∷ list) = ap (λ fs. existential n.piece ∷ fs) (numbered_
 
 module _ (vars : List ℕ) (f : Formula) (occurring : remaining vars f ≡ vars) (x : ℕ) where
   below_wholes : (parts : List (ℕ × Formula)) → Each (λ g. (y : ℕ) → Has y g → Has y f × (y ≢ x)) (forms_of parts)
-      → map (λ s. existential s.1) (below (others x vars) parts) ≡ map (whole vars) (forms_of parts)
+      → map (λ s. existential s.1) (below (others x vars) parts) ≡ map (existential_closure vars) (forms_of parts)
   below_wholes [] fewer = refl
   below_wholes (s ∷ parts) fewer =
       let left : remaining (others x vars) s.1 ≡ remaining vars s.1 = ap (λ xs. remaining (others x xs) s.1) (sym occurring) ∙ left_of_successor vars f s.1 x fewer.0 in
@@ -41,7 +40,7 @@ module _ (vars : List ℕ) (f : Formula) (occurring : remaining vars f ≡ vars)
       → (p : Point) → IsPoint p → Is (under_ex vars f) true p ↔ Is (Or (trees_of (map (λ s. existential s.piece) list))) true p
   grown_true parts list fine grown is =
       subst (λ fs. (p : Point) → IsPoint p → Is (under_ex vars f) true p ↔ Is (Or (trees_of fs)) true p) (sym (below_wholes parts grown.fewer) ∙ (ap (map (λ s. existential s.1)) is ∙ numbered_wholes list))
-      (subst (λ xs. (p : Point) → IsPoint p → Is (under_ex xs f) true p ↔ Is (Or (trees_of (map (whole vars) (forms_of parts)))) true p) occurring
+      (subst (λ xs. (p : Point) → IsPoint p → Is (under_ex xs f) true p ↔ Is (Or (trees_of (map (existential_closure vars) (forms_of parts)))) true p) occurring
       (grown_keeps_truth IsSimplified simplified_no_quantifier vars f (fine_no_quantifier f fine) x parts (subst (λ xs. IsGrown IsSimplified xs f x parts) (sym occurring) grown)))
 
 -- the successors of a node keep its truth

@@ -9,11 +9,11 @@ use Rattle.qe_form.specs.Making.{is_true}
 use Rattle.qe_node.specs.Answer.{expansion_of}
 
 -- a node without variables is a leaf, and it is true where its formula is True
-abbrev pub is_leaf : Sight → Bool
-is_leaf n = is_empty n.vars
+abbrev pub is_leaf_node : Sight → Bool
+is_leaf_node n = is_empty n.vars
 
-abbrev pub is_true_leaf : Sight → Bool
-is_true_leaf n = is_empty n.vars && is_true n.form
+abbrev pub is_true_node : Sight → Bool
+is_true_node n = is_empty n.vars && is_true n.form
 
 -- the number of variables
 abbrev pub height_of : Sight → ℕ

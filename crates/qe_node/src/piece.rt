@@ -3,7 +3,7 @@
 ghost use Rattle.qe_node.specs.key.Code.{sight_key, sight_of};
 ghost use Rattle.qe_node.specs.lemmas.Equal.{same_is_key};
 ghost use Rattle.qe_node.specs.lemmas.Piece.{true_is_leaf, descends};
-ghost use Rattle.qe_node.specs.Piece.{is_leaf, is_true_leaf, height_of, meaning_of};
+ghost use Rattle.qe_node.specs.Piece.{is_leaf_node, is_true_node, height_of, meaning_of};
 
 use crate::{Node, NodeStop, OutOfMemory, Sequence, expand};
 use qe_piece::{Made, Maker, Piece, Stop};
@@ -17,9 +17,9 @@ impl Piece for Node {
 
     ghost meaning = { λ k. meaning_of (sight_of k) };
 
-    ghost leaf = { λ k. is_leaf (sight_of k) };
+    ghost leaf = { λ k. is_leaf_node (sight_of k) };
 
-    ghost truth = { λ k. is_true_leaf (sight_of k) };
+    ghost truth = { λ k. is_true_node (sight_of k) };
 
     ghost height = { λ k. height_of (sight_of k) };
 

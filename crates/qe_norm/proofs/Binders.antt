@@ -1,5 +1,5 @@
 -- Which variables the quantifiers of a formula bind, of the formula that is read and of its normal form.
-use Rattle.std.proofs.Common.{ℕ, Bool, true, false, not, ◌≡◌, ◌⊎◌, inl, inr, sym, eqb, List, [], ◌∷◌, ◌++◌, arith}
+use Rattle.std.proofs.Common.{ℕ, false, ◌≡◌, ◌⊎◌, inl, inr, sym, eqb, List, [], ◌∷◌, ◌++◌, arith}
 use Rattle.std.proofs.lemmas.Bool.Decides.{nat_tests}
 use Rattle.std.specs.Prelude.{nat_eq}
 use Rattle.std.specs.List.{IsDistinct, AllByRecursion, Contains}
@@ -7,7 +7,10 @@ use Rattle.std.proofs.lemmas.Map.Keys.{IsDistinct-head, IsDistinct-tail, IsDisti
 use Rattle.std.proofs.lemmas.List.Elements.{Contains-append_left, Contains-append_right}
 use Rattle.qe_form.specs.Formula.{Formula, Formulas, True, False, Atom, And, Or, Not, Implies, Iff, Ex, All, no_more, more}
 use Rattle.qe_form.specs.Numbered.{binders, binders_each}
-use Rattle.qe_norm.specs.NormalForm.{constant, connected, quantified_if, normal_form, normal_forms}
+use Rattle.qe_norm.specs.declared.polarity.Polarity.{Polarity}
+use Rattle.qe_norm.specs.declared.polarity.Polarity.TheVariants.{Positive, Negative}
+use Rattle.qe_norm.specs.Polarity.{opposite, truth, conjunction, existential}
+use Rattle.qe_norm.specs.NormalForm.{normal_form, normal_forms}
 
 -- some quantifier of the formula binds the variable
 abbrev mutual
@@ -149,67 +152,67 @@ mutual
 
 -- ---- of its normal form
 
-binds_connected : (b : Bool) (fs : Formulas) (x : ℕ) → Binds x (connected b fs) → BindsIn x fs
-binds_connected true fs x h = h
-binds_connected false fs x h = h
+binds_connected : (b : Polarity) (fs : Formulas) (x : ℕ) → Binds x (conjunction b fs) → BindsIn x fs
+binds_connected Positive fs x h = h
+binds_connected Negative fs x h = h
 
-binds_quantified : (b : Bool) (y : ℕ) (f : Formula) (x : ℕ) → Binds x (quantified_if b y f) → (x ≡ y) ⊎ Binds x f
-binds_quantified true y f x h = h
-binds_quantified false y f x h = h
+binds_quantified : (b : Polarity) (y : ℕ) (f : Formula) (x : ℕ) → Binds x (existential b y f) → (x ≡ y) ⊎ Binds x f
+binds_quantified Positive y f x h = h
+binds_quantified Negative y f x h = h
 
-binds_constant : (b : Bool) (x : ℕ) → Binds x (constant b) → ⊥
-binds_constant true x h = h
-binds_constant false x h = h
+binds_constant : (b : Polarity) (x : ℕ) → Binds x (truth b) → ⊥
+binds_constant Positive x h = h
+binds_constant Negative x h = h
 
 either_part : {A B C D : Type 0} → (A → C) → (B → D) → A ⊎ (B ⊎ ⊥) → C ⊎ D
 either_part p q t = elim t [ inl a ↦ inl (p a) | inr s ↦ elim s [ inl b ↦ inr (q b) | inr n ↦ absurd n ] ]
 
 mutual
-  pub binds_normal : (b : Bool) (f : Formula) (x : ℕ) → Binds x (normal_form b f) → Binds x f
+  pub binds_normal : (b : Polarity) (f : Formula) (x : ℕ) → Binds x (normal_form b f) → Binds x f
   binds_normal b True x h = binds_constant b x h
-  binds_normal b False x h = binds_constant (not b) x h
+  binds_normal b False x h = binds_constant (opposite b) x h
   binds_normal b (Atom a) x h = h
   binds_normal b (And fs) x h = bind_normal b fs x (binds_connected b (normal_forms b fs) x h)
-  binds_normal b (Or fs) x h = bind_normal b fs x (binds_connected (not b) (normal_forms b fs) x h)
-  binds_normal b (Not f) x h = binds_normal (not b) f x h
-  binds_normal b (Implies f g) x h = either_part (binds_normal (not b) f x) (binds_normal b g x) (binds_connected (not b) _ x h)
+  binds_normal b (Or fs) x h = bind_normal b fs x (binds_connected (opposite b) (normal_forms b fs) x h)
+  binds_normal b (Not f) x h = binds_normal (opposite b) f x h
+  binds_normal b (Implies f g) x h = either_part (binds_normal (opposite b) f x) (binds_normal b g x) (binds_connected (opposite b) _ x h)
   binds_normal b (Iff f g) x h =
       elim h [
-        | inl s ↦ either_part (binds_normal true f x) (binds_normal b g x) s
-        | inr t ↦ elim t [ inl s ↦ either_part (binds_normal false f x) (binds_normal (not b) g x) s | inr n ↦ absurd n ]
+        | inl s ↦ either_part (binds_normal Positive f x) (binds_normal b g x) s
+        | inr t ↦ elim t [ inl s ↦ either_part (binds_normal Negative f x) (binds_normal (opposite b) g x) s | inr n ↦ absurd n ]
       ]
   binds_normal b (Ex y f) x h = elim (binds_quantified b y (normal_form b f) x h) [ inl e ↦ inl e | inr k ↦ inr (binds_normal b f x k) ]
-  binds_normal b (All y f) x h = elim (binds_quantified (not b) y (normal_form b f) x h) [ inl e ↦ inl e | inr k ↦ inr (binds_normal b f x k) ]
+  binds_normal b (All y f) x h = elim (binds_quantified (opposite b) y (normal_form b f) x h) [ inl e ↦ inl e | inr k ↦ inr (binds_normal b f x k) ]
 
-  bind_normal : (b : Bool) (fs : Formulas) (x : ℕ) → BindsIn x (normal_forms b fs) → BindsIn x fs
+  bind_normal : (b : Polarity) (fs : Formulas) (x : ℕ) → BindsIn x (normal_forms b fs) → BindsIn x fs
   bind_normal b no_more x h = h
   bind_normal b (more f fs) x h = elim h [ inl k ↦ inl (binds_normal b f x k) | inr k ↦ inr (bind_normal b fs x k) ]
 
-ready_connected : (b : Bool) (fs : Formulas) → AreReady fs → IsReady (connected b fs)
-ready_connected true fs h = h
-ready_connected false fs h = h
+ready_connected : (b : Polarity) (fs : Formulas) → AreReady fs → IsReady (conjunction b fs)
+ready_connected Positive fs h = h
+ready_connected Negative fs h = h
 
-ready_quantified : (b : Bool) (x : ℕ) (f : Formula) → (Binds x f → ⊥) × IsReady f → IsReady (quantified_if b x f)
-ready_quantified true x f h = h
-ready_quantified false x f h = h
+ready_quantified : (b : Polarity) (x : ℕ) (f : Formula) → (Binds x f → ⊥) × IsReady f → IsReady (existential b x f)
+ready_quantified Positive x f h = h
+ready_quantified Negative x f h = h
 
-ready_constant : (b : Bool) → IsReady (constant b)
-ready_constant true = tt
-ready_constant false = tt
+ready_constant : (b : Polarity) → IsReady (truth b)
+ready_constant Positive = tt
+ready_constant Negative = tt
 
 mutual
-  pub ready : (b : Bool) (f : Formula) → IsNested f → IsReady (normal_form b f)
+  pub ready : (b : Polarity) (f : Formula) → IsNested f → IsReady (normal_form b f)
   ready b True h = ready_constant b
-  ready b False h = ready_constant (not b)
+  ready b False h = ready_constant (opposite b)
   ready b (Atom a) h = tt
   ready b (And fs) h = ready_connected b (normal_forms b fs) (ready_each b fs h)
-  ready b (Or fs) h = ready_connected (not b) (normal_forms b fs) (ready_each b fs h)
-  ready b (Not f) h = ready (not b) f h
-  ready b (Implies f g) h = ready_connected (not b) _ (ready (not b) f h.0, (ready b g h.1, tt))
-  ready b (Iff f g) h = ((ready true f h.0, (ready b g h.1, tt)), ((ready false f h.0, (ready (not b) g h.1, tt)), tt))
+  ready b (Or fs) h = ready_connected (opposite b) (normal_forms b fs) (ready_each b fs h)
+  ready b (Not f) h = ready (opposite b) f h
+  ready b (Implies f g) h = ready_connected (opposite b) _ (ready (opposite b) f h.0, (ready b g h.1, tt))
+  ready b (Iff f g) h = ((ready Positive f h.0, (ready b g h.1, tt)), ((ready Negative f h.0, (ready (opposite b) g h.1, tt)), tt))
   ready b (Ex x f) h = ready_quantified b x (normal_form b f) (λ k. h.0 (binds_normal b f x k), ready b f h.1)
-  ready b (All x f) h = ready_quantified (not b) x (normal_form b f) (λ k. h.0 (binds_normal b f x k), ready b f h.1)
+  ready b (All x f) h = ready_quantified (opposite b) x (normal_form b f) (λ k. h.0 (binds_normal b f x k), ready b f h.1)
 
-  ready_each : (b : Bool) (fs : Formulas) → AreNested fs → AreReady (normal_forms b fs)
+  ready_each : (b : Polarity) (fs : Formulas) → AreNested fs → AreReady (normal_forms b fs)
   ready_each b no_more h = tt
   ready_each b (more f fs) h = (ready b f h.0, ready_each b fs h.1)

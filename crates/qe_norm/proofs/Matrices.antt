@@ -9,10 +9,10 @@ use Rattle.qe_form.specs.Measures.{count, count_each}
 use Rattle.qe_form.specs.Numbered.{Occurs, OccursInOne}
 use Rattle.qe_form.specs.Plain.{IsPlain, ArePlainWith}
 use Rattle.qe_form.specs.Same.{IsFree, IsFreeInSome}
-use Rattle.qe_norm.specs.declared.prenex.Kind.{Kind}
-use Rattle.qe_norm.specs.declared.prenex.Kind.TheVariants as kind
+use Rattle.qe_form.specs.Blocks.{Kind, exists, for_all, under_one}
+use Rattle.qe_norm.specs.declared.blocks.Kind.TheVariants as kind
 use Rattle.qe_norm.specs.declared.walk.Quantifier.{Quantifier}
-use Rattle.qe_norm.specs.Blocks.{quantified, prefix, prefix_each, matrix, matrix_each}
+use Rattle.qe_norm.specs.Blocks.{kind_of, prefix, prefix_each, matrix, matrix_each}
 use Rattle.qe_norm.proofs.Binders.{Binds, BindsIn, IsReady, AreReady}
 use Rattle.qe_norm.proofs.Outwards.{under, IsVariable, IsApart, AreApart, prefix_binds, prefixes_bind, below_one}
 use Rattle.qe_norm.proofs.Grouping.{vars_of}
@@ -87,14 +87,14 @@ contained qs x h = at qs h.0 h.1 h.2
 
 -- ---- the variables that occur
 
-occurs_quantified : (k : Kind) (x : ℕ) (f : Formula) (z : ℕ) → Occurs z (quantified k x f) → (z ≡ x) ⊎ Occurs z f
-occurs_quantified kind.Ex x f z o = o
-occurs_quantified kind.All x f z o = o
+occurs_quantified : (k : Kind) (x : ℕ) (f : Formula) (z : ℕ) → Occurs z (under_one k x f) → (z ≡ x) ⊎ Occurs z f
+occurs_quantified exists x f z o = o
+occurs_quantified for_all x f z o = o
 
 pub occurs_under : (qs : List Quantifier) (f : Formula) (z : ℕ) → Occurs z (under qs f) → IsVariable z qs ⊎ Occurs z f
 occurs_under [] f z o = inr o
 occurs_under (q ∷ qs) f z o =
-    elim (occurs_quantified q.kind q.var.0 (under qs f) z o) [ inl e ↦ inl (inl e) | inr k ↦ elim (occurs_under qs f z k) [ inl l ↦ inl (inr l) | inr l ↦ inr l ] ]
+    elim (occurs_quantified (kind_of q.kind) q.var.0 (under qs f) z o) [ inl e ↦ inl (inl e) | inr k ↦ elim (occurs_under qs f z k) [ inl l ↦ inl (inr l) | inr l ↦ inr l ] ]
 
 mutual
   pub occurs_matrix : (f : Formula) (z : ℕ) → IsReady f → Occurs z (matrix f) → IsFree z f ⊎ Binds z f

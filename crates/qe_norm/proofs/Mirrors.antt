@@ -1,118 +1,137 @@
 -- The one walk of the code finds the quantifiers, the matrix and the names of the numbered normal form, and its count.
-use Rattle.std.proofs.Common.{ℕ, ◌+◌, ◌*◌, Bool, true, false, not, ◌≡◌, ◌∙◌, refl, sym, ap, List, [], ◌∷◌, ◌++◌, arith}
+use Rattle.std.proofs.Common.{ℕ, ◌+◌, true, false, cond, ◌≡◌, ◌∙◌, refl, sym, ap, List, [], ◌∷◌, ◌++◌, length, take, arith}
+use Rattle.std.proofs.Math.Seq.{take-append_seam, take-length}
 use Rattle.std.proofs.lemmas.List.{append_assoc, append-nil}
 use Rattle.qe_form.specs.Formula.{Formula, Formulas, True, False, Atom, And, Or, Not, Implies, Iff, Ex, All, no_more, more}
 use Rattle.qe_form.specs.Measures.{count, count_each}
-use Rattle.qe_norm.specs.declared.walk.Quantifier.{Quantifier}
+use Rattle.qe_norm.specs.declared.polarity.Polarity.{Polarity}
+use Rattle.qe_norm.specs.declared.polarity.Polarity.TheVariants.{Positive, Negative}
 use Rattle.qe_norm.specs.declared.walk.Renaming.{Renaming}
-use Rattle.qe_norm.specs.NormalForm.{constant, connected, pair, quantified_if, normal_form, normal_forms}
-use Rattle.qe_norm.specs.Numbering.{Walked, after, within, numbered, numbered_each}
+use Rattle.qe_norm.specs.Polarity.{opposite, truth, conjunction, pair, existential, kind_at}
+use Rattle.qe_norm.specs.NormalForm.{normal_form, normal_forms}
+use Rattle.qe_norm.specs.Numbering.{Walked, is_copy, new_variable, to_copy, within, numbered, numbered_each}
 use Rattle.qe_norm.specs.Blocks.{prefix, prefix_each, matrix, matrix_each}
-use Rattle.qe_norm.specs.Walk.{size_of, size_of_each, kind_if, quantifier, met_after, met_after_each, quantifiers, quantifiers_each, opened, opened_each}
+use Rattle.qe_norm.specs.Walk.{size_of, size_of_each, State, quantifier, entered, left, opened, opened_each}
 
--- what a walk through g finds: what is met after it, the quantifiers, and the matrix
-pub record Finds (g : Formula) (rs : List Renaming) (w v : Walked) (qs : List Quantifier) (m : Formula) : Type 0 where
-  pub met : (numbered g rs w).1 ≡ v
-  pub prefix : prefix (numbered g rs w).0 ≡ qs
-  pub matrix : matrix (numbered g rs w).0 ≡ m
+-- A walk from the state s to the state t through g finds the quantifiers of the numbered g, and m as its matrix.
+pub record Finds (g : Formula) (s : State) (m : Formula) (t : State) : Type 0 where
+  pub walked : (numbered g s.renamings s.walked).1 ≡ t.walked
+  pub prefix : s.prefix ++ prefix (numbered g s.renamings s.walked).0 ≡ t.prefix
+  pub renamings : s.renamings ≡ t.renamings
+  pub matrix : matrix (numbered g s.renamings s.walked).0 ≡ m
 
 -- the same of parts in order
-record FindsEach (gs : Formulas) (rs : List Renaming) (w v : Walked) (qs : List Quantifier) (ms : Formulas) : Type 0 where
-  met : (numbered_each gs rs w).1 ≡ v
-  prefix : prefix_each (numbered_each gs rs w).0 ≡ qs
-  matrix : matrix_each (numbered_each gs rs w).0 ≡ ms
+record FindsEach (gs : Formulas) (s : State) (ms : Formulas) (t : State) : Type 0 where
+  walked : (numbered_each gs s.renamings s.walked).1 ≡ t.walked
+  prefix : s.prefix ++ prefix_each (numbered_each gs s.renamings s.walked).0 ≡ t.prefix
+  renamings : s.renamings ≡ t.renamings
+  matrix : matrix_each (numbered_each gs s.renamings s.walked).0 ≡ ms
 
-finds_constant : (b : Bool) (rs : List Renaming) (w : Walked) → Finds (constant b) rs w w [] (constant b)
-finds_constant true rs w = record { met = refl; prefix = refl; matrix = refl }
-finds_constant false rs w = record { met = refl; prefix = refl; matrix = refl }
+finds_truth : (b : Polarity) (s : State) → Finds (truth b) s (truth b) s
+finds_truth Positive s = record { walked = refl; prefix = append-nil s.prefix; renamings = refl; matrix = refl }
+finds_truth Negative s = record { walked = refl; prefix = append-nil s.prefix; renamings = refl; matrix = refl }
 
-finds_connected : (b : Bool) (gs : Formulas) (rs : List Renaming) (w v : Walked) (qs : List Quantifier) (ms : Formulas) → FindsEach gs rs w v qs ms → Finds (connected b gs) rs w v qs (connected b ms)
-finds_connected true gs rs w v qs ms h = record { met = h.met; prefix = h.prefix; matrix = ap And h.matrix }
-finds_connected false gs rs w v qs ms h = record { met = h.met; prefix = h.prefix; matrix = ap Or h.matrix }
+finds_conjunction : (b : Polarity) (gs : Formulas) (s : State) (ms : Formulas) (t : State) → FindsEach gs s ms t → Finds (conjunction b gs) s (conjunction b ms) t
+finds_conjunction Positive gs s ms t h = record { walked = h.walked; prefix = h.prefix; renamings = h.renamings; matrix = ap And h.matrix }
+finds_conjunction Negative gs s ms t h = record { walked = h.walked; prefix = h.prefix; renamings = h.renamings; matrix = ap Or h.matrix }
 
-finds_quantified : (b : Bool) (x : ℕ) (g : Formula) (rs : List Renaming) (w v : Walked) (qs : List Quantifier) (m : Formula) → Finds g (within w x rs) (after w x) v qs m → Finds (quantified_if b x g) rs w v (quantifier (kind_if b) w x ∷ qs) m
-finds_quantified true x g rs w v qs m h = record { met = h.met; prefix = ap (λ ps. quantifier (kind_if true) w x ∷ ps) h.prefix; matrix = h.matrix }
-finds_quantified false x g rs w v qs m h = record { met = h.met; prefix = ap (λ ps. quantifier (kind_if false) w x ∷ ps) h.prefix; matrix = h.matrix }
+-- the renamings before a quantifier are the first of those in its body
+first_renamings : (w : Walked) (x : ℕ) (rs : List Renaming) → rs ≡ take (length rs) (within w x rs)
+first_renamings w x rs = elim (is_copy w x) as (λ b. rs ≡ take (length rs) (cond b (rs ++ to_copy w x ∷ []) rs)) [
+  | true ↦ sym (take-append_seam rs (to_copy w x ∷ []))
+  | false ↦ sym (take-length rs)
+]
 
-finds_none : (rs : List Renaming) (w : Walked) → FindsEach no_more rs w w [] no_more
-finds_none rs w = record { met = refl; prefix = refl; matrix = refl }
-
-finds_more : (g : Formula) (gs : Formulas) (rs : List Renaming) (w v u : Walked) (ps qs : List Quantifier) (m : Formula) (ms : Formulas) → Finds g rs w v ps m → FindsEach gs rs v u qs ms → FindsEach (more g gs) rs w u (ps ++ qs) (more m ms)
-finds_more g gs rs w v u ps qs m ms h k = record {
-  met = ap (λ y. (numbered_each gs rs y).1) h.met ∙ k.met;
-  prefix = (λ i. h.prefix i ++ prefix_each (numbered_each gs rs (h.met i)).0) ∙ ap (λ ys. ps ++ ys) k.prefix;
-  matrix = (λ i. more (h.matrix i) (matrix_each (numbered_each gs rs (h.met i)).0)) ∙ ap (more m) k.matrix;
+finds_existential : (b : Polarity) (x : ℕ) (g : Formula) (s : State) (m : Formula) (t : State)
+    → Finds g (entered (kind_at b) x s) m t → Finds (existential b x g) s m (left (length s.renamings) t)
+finds_existential Positive x g s m t h = record {
+  walked = h.walked;
+  prefix = sym (append_assoc s.prefix (quantifier (kind_at Positive) (new_variable s.walked x) ∷ []) _) ∙ h.prefix;
+  renamings = first_renamings s.walked x s.renamings ∙ ap (take (length s.renamings)) h.renamings;
+  matrix = h.matrix;
+}
+finds_existential Negative x g s m t h = record {
+  walked = h.walked;
+  prefix = sym (append_assoc s.prefix (quantifier (kind_at Negative) (new_variable s.walked x) ∷ []) _) ∙ h.prefix;
+  renamings = first_renamings s.walked x s.renamings ∙ ap (take (length s.renamings)) h.renamings;
+  matrix = h.matrix;
 }
 
-finds_pair : (b : Bool) (g h : Formula) (rs : List Renaming) (w v u : Walked) (ps qs : List Quantifier) (m k : Formula) → Finds g rs w v ps m → Finds h rs v u qs k → Finds (pair b g h) rs w u (ps ++ qs) (pair b m k)
-finds_pair b g h rs w v u ps qs m k one two =
-    let both = finds_more g (more h no_more) rs w v u ps (qs ++ []) m (more k no_more) one (finds_more h no_more rs v u u qs [] k no_more two (finds_none rs u)) in
-    finds_connected b (more g (more h no_more)) rs w u (ps ++ qs) (more m (more k no_more)) (record { met = both.met; prefix = both.prefix ∙ ap (λ ys. ps ++ ys) (append-nil qs); matrix = both.matrix })
+finds_none : (s : State) → FindsEach no_more s no_more s
+finds_none s = record { walked = refl; prefix = append-nil s.prefix; renamings = refl; matrix = refl }
 
-as_list : (g : Formula) (rs : List Renaming) (w v : Walked) (ps qs : List Quantifier) (m : Formula) → ps ≡ qs → Finds g rs w v ps m → Finds g rs w v qs m
-as_list g rs w v ps qs m same h = record { met = h.met; prefix = h.prefix ∙ same; matrix = h.matrix }
+finds_more : (g : Formula) (gs : Formulas) (s : State) (m : Formula) (t : State) (ms : Formulas) (u : State)
+    → Finds g s m t → FindsEach gs t ms u → FindsEach (more g gs) s (more m ms) u
+finds_more g gs s m t ms u h k = record {
+  walked = (λ i. (numbered_each gs (h.renamings i) (h.walked i)).1) ∙ k.walked;
+  prefix = sym (append_assoc s.prefix (prefix (numbered g s.renamings s.walked).0) _)
+      ∙ (λ i. h.prefix i ++ prefix_each (numbered_each gs (h.renamings i) (h.walked i)).0) ∙ k.prefix;
+  renamings = h.renamings ∙ k.renamings;
+  matrix = (λ i. more (h.matrix i) (matrix_each (numbered_each gs (h.renamings i) (h.walked i)).0)) ∙ ap (more m) k.matrix;
+}
+
+finds_pair : (b : Polarity) (g h : Formula) (s : State) (m : Formula) (t : State) (k : Formula) (u : State)
+    → Finds g s m t → Finds h t k u → Finds (pair b g h) s (pair b m k) u
+finds_pair b g h s m t k u one two =
+    finds_conjunction b _ s _ u (finds_more g (more h no_more) s m t _ u one (finds_more h no_more t k u no_more u two (finds_none u)))
 
 mutual
-  pub finds : (b : Bool) (f : Formula) (rs : List Renaming) (w : Walked) → Finds (normal_form b f) rs w (met_after f w) (quantifiers b f w) (opened b f rs w)
-  finds b True rs w = finds_constant b rs w
-  finds b False rs w = finds_constant (not b) rs w
-  finds b (Atom a) rs w = record { met = refl; prefix = refl; matrix = refl }
-  finds b (And fs) rs w = finds_connected b (normal_forms b fs) rs w _ _ _ (finds_each b fs rs w)
-  finds b (Or fs) rs w = finds_connected (not b) (normal_forms b fs) rs w _ _ _ (finds_each b fs rs w)
-  finds b (Not f) rs w = finds (not b) f rs w
-  finds b (Implies f g) rs w = finds_pair (not b) _ _ rs w _ _ _ _ _ _ (finds (not b) f rs w) (finds b g rs (met_after f w))
-  finds b (Iff f g) rs w =
-      let v = met_after g (met_after f w) in
-      let one = finds_pair true _ _ rs w _ _ _ _ _ _ (finds true f rs w) (finds b g rs (met_after f w)) in
-      let two = finds_pair true _ _ rs v _ _ _ _ _ _ (finds false f rs v) (finds (not b) g rs (met_after f v)) in
-      as_list _ rs w _ _ _ _
-      (sym (append_assoc (quantifiers true f w ++ quantifiers b g (met_after f w)) (quantifiers false f v) (quantifiers (not b) g (met_after f v))))
-      (finds_pair false _ _ rs w _ _ _ _ _ _ one two)
-  finds b (Ex x f) rs w = finds_quantified b x _ rs w _ _ _ (finds b f (within w x rs) (after w x))
-  finds b (All x f) rs w = finds_quantified (not b) x _ rs w _ _ _ (finds b f (within w x rs) (after w x))
+  pub finds : (b : Polarity) (f : Formula) (s : State) → Finds (normal_form b f) s (opened b f s).0 (opened b f s).1
+  finds b True s = finds_truth b s
+  finds b False s = finds_truth (opposite b) s
+  finds b (Atom a) s = record { walked = refl; prefix = append-nil s.prefix; renamings = refl; matrix = refl }
+  finds b (And fs) s = finds_conjunction b _ s _ _ (finds_each b fs s)
+  finds b (Or fs) s = finds_conjunction (opposite b) _ s _ _ (finds_each b fs s)
+  finds b (Not f) s = finds (opposite b) f s
+  finds b (Implies f g) s = finds_pair (opposite b) _ _ s _ _ _ _ (finds (opposite b) f s) (finds b g (opened (opposite b) f s).1)
+  finds b (Iff f g) s =
+      let t = (opened Positive f s).1 in
+      let u = (opened b g t).1 in
+      let v = (opened Negative f u).1 in
+      let one = finds_pair Positive _ _ s _ t _ u (finds Positive f s) (finds b g t) in
+      let two = finds_pair Positive _ _ u _ v _ _ (finds Negative f u) (finds (opposite b) g v) in
+      finds_pair Negative _ _ s _ u _ _ one two
+  finds b (Ex x f) s = finds_existential b x _ s _ _ (finds b f (entered (kind_at b) x s))
+  finds b (All x f) s = finds_existential (opposite b) x _ s _ _ (finds b f (entered (kind_at (opposite b)) x s))
 
-  finds_each : (b : Bool) (fs : Formulas) (rs : List Renaming) (w : Walked) → FindsEach (normal_forms b fs) rs w (met_after_each fs w) (quantifiers_each b fs w) (opened_each b fs rs w)
-  finds_each b no_more rs w = finds_none rs w
-  finds_each b (more f fs) rs w = finds_more _ _ rs w _ _ _ _ _ _ (finds b f rs w) (finds_each b fs rs (met_after f w))
+  finds_each : (b : Polarity) (fs : Formulas) (s : State) → FindsEach (normal_forms b fs) s (opened_each b fs s).0 (opened_each b fs s).1
+  finds_each b no_more s = finds_none s
+  finds_each b (more f fs) s = finds_more _ _ s _ _ _ _ (finds b f s) (finds_each b fs (opened b f s).1)
 
 -- ---- the count
 
-count_connected : (b : Bool) (fs : Formulas) → count (connected b fs) ≡ count_each fs
-count_connected true fs = refl
-count_connected false fs = refl
+count_conjunction : (b : Polarity) (fs : Formulas) → count (conjunction b fs) ≡ count_each fs
+count_conjunction Positive fs = refl
+count_conjunction Negative fs = refl
 
-count_quantified : (b : Bool) (x : ℕ) (f : Formula) → count (quantified_if b x f) ≡ 1 + count f
-count_quantified true x f = refl
-count_quantified false x f = refl
+count_existential : (b : Polarity) (x : ℕ) (f : Formula) → count (existential b x f) ≡ 1 + count f
+count_existential Positive x f = refl
+count_existential Negative x f = refl
 
-count_constant : (b : Bool) → count (constant b) ≡ 1
-count_constant true = refl
-count_constant false = refl
+count_truth : (b : Polarity) → count (truth b) ≡ 1
+count_truth Positive = refl
+count_truth Negative = refl
 
-count_pair : (b : Bool) (f g : Formula) (m n : ℕ) → count f ≡ m → count g ≡ n → count (pair b f g) ≡ m + n
-count_pair b f g m n p q = count_connected b (more f (more g no_more)) ∙ (omega (arith, p, q))
+count_pair : (b : Polarity) (f g : Formula) (m n : ℕ) → count f ≡ m → count g ≡ n → count (pair b f g) ≡ m + n
+count_pair b f g m n p q = count_conjunction b (more f (more g no_more)) ∙ (omega (arith, p, q))
 
 mutual
   -- the normal form of a formula, and that of its negation, count what is counted on the formula
-  pub count_normal : (b : Bool) (f : Formula) → count (normal_form b f) ≡ size_of f
-  count_normal b True = count_constant b
-  count_normal b False = count_constant (not b)
+  pub count_normal : (b : Polarity) (f : Formula) → count (normal_form b f) ≡ size_of f
+  count_normal b True = count_truth b
+  count_normal b False = count_truth (opposite b)
   count_normal b (Atom a) = refl
-  count_normal b (And fs) = count_connected b (normal_forms b fs) ∙ count_normals b fs
-  count_normal b (Or fs) = count_connected (not b) (normal_forms b fs) ∙ count_normals b fs
-  count_normal b (Not f) = count_normal (not b) f
-  count_normal b (Implies f g) = count_pair (not b) (normal_form (not b) f) (normal_form b g) (size_of f) (size_of g) (count_normal (not b) f) (count_normal b g)
+  count_normal b (And fs) = count_conjunction b (normal_forms b fs) ∙ count_normals b fs
+  count_normal b (Or fs) = count_conjunction (opposite b) (normal_forms b fs) ∙ count_normals b fs
+  count_normal b (Not f) = count_normal (opposite b) f
+  count_normal b (Implies f g) = count_pair (opposite b) (normal_form (opposite b) f) (normal_form b g) (size_of f) (size_of g) (count_normal (opposite b) f) (count_normal b g)
   count_normal b (Iff f g) =
-      count_pair false (pair true (normal_form true f) (normal_form b g)) (pair true (normal_form false f) (normal_form (not b) g)) (size_of f + size_of g) (size_of f + size_of g)
-      (count_pair true (normal_form true f) (normal_form b g) (size_of f) (size_of g) (count_normal true f) (count_normal b g))
-      (count_pair true (normal_form false f) (normal_form (not b) g) (size_of f) (size_of g) (count_normal false f) (count_normal (not b) g))
-      ∙ twice (size_of f + size_of g)
-    where
-      twice : (n : ℕ) → n + n ≡ 2 * n
-      twice n = omega arith
-  count_normal b (Ex x f) = count_quantified b x (normal_form b f) ∙ ap (λ n. 1 + n) (count_normal b f)
-  count_normal b (All x f) = count_quantified (not b) x (normal_form b f) ∙ ap (λ n. 1 + n) (count_normal b f)
+      let one = count_pair Positive (normal_form Positive f) (normal_form b g) (size_of f) (size_of g) (count_normal Positive f) (count_normal b g) in
+      let other = count_pair Positive (normal_form Negative f) (normal_form (opposite b) g) (size_of f) (size_of g) (count_normal Negative f) (count_normal (opposite b) g) in
+      omega (arith, one, other)
+  count_normal b (Ex x f) = count_existential b x (normal_form b f) ∙ ap (λ n. 1 + n) (count_normal b f)
+  count_normal b (All x f) = count_existential (opposite b) x (normal_form b f) ∙ ap (λ n. 1 + n) (count_normal b f)
 
-  count_normals : (b : Bool) (fs : Formulas) → count_each (normal_forms b fs) ≡ size_of_each fs
+  count_normals : (b : Polarity) (fs : Formulas) → count_each (normal_forms b fs) ≡ size_of_each fs
   count_normals b no_more = refl
   count_normals b (more f fs) = let p = count_normal b f in let q = count_normals b fs in omega (arith, p, q)

@@ -11,25 +11,28 @@ use Rattle.qe_form.specs.Truth.{has_sign, Is, EachIs, SomeIs}
 use Rattle.qe_form.specs.Same.{IsFree, IsFreeInSome, Same}
 use Rattle.qe_form.specs.Preserved.{IsDecided}
 use Rattle.qe_form.proofs.TwoSides.{never_both}
-use Rattle.qe_norm.specs.NormalForm.{constant, connected, quantified_if, signs_if, normal_form, normal_forms}
+use Rattle.qe_norm.specs.declared.polarity.Polarity.{Polarity}
+use Rattle.qe_norm.specs.declared.polarity.Polarity.TheVariants.{Positive, Negative}
+use Rattle.qe_norm.specs.Polarity.{opposite, truth, conjunction, existential, signs_at}
+use Rattle.qe_norm.specs.NormalForm.{normal_form, normal_forms}
 
--- b and c are the same
-abbrev pub agreeing : Bool → Bool → Bool
-agreeing true c = c
-agreeing false c = not c
+-- the truth of a formula whose normal form at the polarity has this truth
+abbrev pub agreeing : Polarity → Bool → Bool
+agreeing Positive c = c
+agreeing Negative c = not c
 
 -- ---- one formula at a time
 
-constant_is : (b c : Bool) (p : Point) → Is (constant b) c p ↔ (agreeing b c ≡ true)
-constant_is true true p = ((λ e. e), (λ e. e))
-constant_is true false p = ((λ e. e), (λ e. e))
-constant_is false true p = ((λ e. sym e), (λ e. sym e))
-constant_is false false p = ((λ e. refl), (λ e. refl))
+constant_is : (b : Polarity) (c : Bool) (p : Point) → Is (truth b) c p ↔ (agreeing b c ≡ true)
+constant_is Positive true p = ((λ e. e), (λ e. e))
+constant_is Positive false p = ((λ e. e), (λ e. e))
+constant_is Negative true p = ((λ e. sym e), (λ e. sym e))
+constant_is Negative false p = ((λ e. refl), (λ e. refl))
 
-constant_is_not : (b c : Bool) (p : Point) → Is (constant (not b)) c p ↔ (agreeing b c ≡ false)
-constant_is_not true c p = ((λ e. e), (λ e. e))
-constant_is_not false true p = ((λ e. refl), (λ e. refl))
-constant_is_not false false p = ((λ e. sym e), (λ e. sym e))
+constant_is_not : (b : Polarity) (c : Bool) (p : Point) → Is (truth (opposite b)) c p ↔ (agreeing b c ≡ false)
+constant_is_not Positive c p = ((λ e. e), (λ e. e))
+constant_is_not Negative true p = ((λ e. refl), (λ e. refl))
+constant_is_not Negative false p = ((λ e. sym e), (λ e. sym e))
 
 complement_has : (s : Signs) (t : Sign) → has_sign (complement s) t ≡ not (has_sign s t)
 complement_has s Minus = refl
@@ -42,35 +45,9 @@ not_moved true false = ((λ e. refl), (λ e. refl))
 not_moved false true = ((λ e. refl), (λ e. refl))
 not_moved false false = ((λ e. sym e), (λ e. sym e))
 
-signs_are : (b c : Bool) (s : Signs) (t : Sign) → (has_sign (signs_if b s) t ≡ c) ↔ (has_sign s t ≡ agreeing b c)
-signs_are true c s t = ((λ e. e), (λ e. e))
-signs_are false c s t = (λ e. (not_moved (has_sign s t) c).0 (sym (complement_has s t) ∙ e), λ e. complement_has s t ∙ (not_moved (has_sign s t) c).1 e)
-
--- each of the formulas is of this truth, or some is
-abbrev pub Joined : Bool → Formulas → Bool → Point → Type 0
-Joined true fs c p = EachIs fs c p
-Joined false fs c p = SomeIs fs c p
-
-pub connected_is : (b : Bool) (fs : Formulas) (c : Bool) (p : Point) → Is (connected b fs) c p ↔ Joined (agreeing b c) fs c p
-connected_is true fs true p = ((λ t. t), (λ t. t))
-connected_is true fs false p = ((λ t. t), (λ t. t))
-connected_is false fs true p = ((λ t. t), (λ t. t))
-connected_is false fs false p = ((λ t. t), (λ t. t))
-
--- for some number, or for each
-abbrev pub Ranges : Bool → (Number → Type 0) → Type 0
-Ranges true P = (v : Number) × IsNumber v × P v
-Ranges false P = (v : Number) → IsNumber v → P v
-
-pub quantified_is : (b : Bool) (x : ℕ) (f : Formula) (c : Bool) (p : Point) → Is (quantified_if b x f) c p ↔ Ranges (agreeing b c) (λ v. Is f c ((x, v) ∷ p))
-quantified_is true x f true p = ((λ t. t), (λ t. t))
-quantified_is true x f false p = ((λ t. t), (λ t. t))
-quantified_is false x f true p = ((λ t. t), (λ t. t))
-quantified_is false x f false p = ((λ t. t), (λ t. t))
-
-pub ranges_moved : (b : Bool) (P Q : Number → Type 0) → ((v : Number) → IsNumber v → P v → Q v) → Ranges b P → Ranges b Q
-ranges_moved true P Q move t = (t.0, t.1, move t.0 t.1 t.2)
-ranges_moved false P Q move t = λ v k. move v k (t v k)
+signs_are : (b : Polarity) (c : Bool) (s : Signs) (t : Sign) → (has_sign (signs_at b s) t ≡ c) ↔ (has_sign s t ≡ agreeing b c)
+signs_are Positive c s t = ((λ e. e), (λ e. e))
+signs_are Negative c s t = (λ e. (not_moved (has_sign s t) c).0 (sym (complement_has s t) ∙ e), λ e. complement_has s t ∙ (not_moved (has_sign s t) c).1 e)
 
 then : {A B C : Type 0} → A ↔ B → B ↔ C → A ↔ C
 then p q = ((λ a. q.0 (p.0 a)), (λ c. p.1 (q.1 c)))
@@ -114,52 +91,52 @@ module _ (P Q : Number → Type 0) (r : (v : Number) → P v ↔ Q v) where
   each_number = ((λ t v k. (r v).0 (t v k)), (λ t v k. (r v).1 (t v k)))
 
 mutual
-  pub normal_form_is : (b : Bool) (f : Formula) (c : Bool) (p : Point) → Is (normal_form b f) c p ↔ Is f (agreeing b c) p
+  pub normal_form_is : (b : Polarity) (f : Formula) (c : Bool) (p : Point) → Is (normal_form b f) c p ↔ Is f (agreeing b c) p
   normal_form_is b True c p = constant_is b c p
   normal_form_is b False c p = constant_is_not b c p
   normal_form_is b (Atom a) c p = signs_are b c a.signs (sign_of (value a.poly p))
-  normal_form_is true (And fs) true p = normal_forms_each true fs true p
-  normal_form_is true (And fs) false p = normal_forms_some true fs false p
-  normal_form_is false (And fs) true p = normal_forms_some false fs true p
-  normal_form_is false (And fs) false p = normal_forms_each false fs false p
-  normal_form_is true (Or fs) true p = normal_forms_some true fs true p
-  normal_form_is true (Or fs) false p = normal_forms_each true fs false p
-  normal_form_is false (Or fs) true p = normal_forms_each false fs true p
-  normal_form_is false (Or fs) false p = normal_forms_some false fs false p
-  normal_form_is true (Not f) c p = normal_form_is false f c p
-  normal_form_is false (Not f) true p = normal_form_is true f true p
-  normal_form_is false (Not f) false p = normal_form_is true f false p
-  normal_form_is true (Implies f g) true p = one_of (normal_form_is false f true p) (normal_form_is true g true p)
-  normal_form_is true (Implies f g) false p = two (normal_form_is false f false p) (normal_form_is true g false p)
-  normal_form_is false (Implies f g) true p = two (normal_form_is true f true p) (normal_form_is false g true p)
-  normal_form_is false (Implies f g) false p = one_of (normal_form_is true f false p) (normal_form_is false g false p)
-  normal_form_is true (Iff f g) true p =
-      one_of (two (normal_form_is true f true p) (normal_form_is true g true p)) (two (normal_form_is false f true p) (normal_form_is false g true p))
-  normal_form_is false (Iff f g) true p =
-      one_of (two (normal_form_is true f true p) (normal_form_is false g true p)) (two (normal_form_is false f true p) (normal_form_is true g true p))
-  normal_form_is true (Iff f g) false p =
-      then (two (one_of (normal_form_is true f false p) (normal_form_is true g false p)) (one_of (normal_form_is false f false p) (normal_form_is false g false p)))
+  normal_form_is Positive (And fs) true p = normal_forms_each Positive fs true p
+  normal_form_is Positive (And fs) false p = normal_forms_some Positive fs false p
+  normal_form_is Negative (And fs) true p = normal_forms_some Negative fs true p
+  normal_form_is Negative (And fs) false p = normal_forms_each Negative fs false p
+  normal_form_is Positive (Or fs) true p = normal_forms_some Positive fs true p
+  normal_form_is Positive (Or fs) false p = normal_forms_each Positive fs false p
+  normal_form_is Negative (Or fs) true p = normal_forms_each Negative fs true p
+  normal_form_is Negative (Or fs) false p = normal_forms_some Negative fs false p
+  normal_form_is Positive (Not f) c p = normal_form_is Negative f c p
+  normal_form_is Negative (Not f) true p = normal_form_is Positive f true p
+  normal_form_is Negative (Not f) false p = normal_form_is Positive f false p
+  normal_form_is Positive (Implies f g) true p = one_of (normal_form_is Negative f true p) (normal_form_is Positive g true p)
+  normal_form_is Positive (Implies f g) false p = two (normal_form_is Negative f false p) (normal_form_is Positive g false p)
+  normal_form_is Negative (Implies f g) true p = two (normal_form_is Positive f true p) (normal_form_is Negative g true p)
+  normal_form_is Negative (Implies f g) false p = one_of (normal_form_is Positive f false p) (normal_form_is Negative g false p)
+  normal_form_is Positive (Iff f g) true p =
+      one_of (two (normal_form_is Positive f true p) (normal_form_is Positive g true p)) (two (normal_form_is Negative f true p) (normal_form_is Negative g true p))
+  normal_form_is Negative (Iff f g) true p =
+      one_of (two (normal_form_is Positive f true p) (normal_form_is Negative g true p)) (two (normal_form_is Negative f true p) (normal_form_is Positive g true p))
+  normal_form_is Positive (Iff f g) false p =
+      then (two (one_of (normal_form_is Positive f false p) (normal_form_is Positive g false p)) (one_of (normal_form_is Negative f false p) (normal_form_is Negative g false p)))
       (crossed f g p)
-  normal_form_is false (Iff f g) false p =
-      then (two (one_of (normal_form_is true f false p) (normal_form_is false g false p)) (one_of (normal_form_is false f false p) (normal_form_is true g false p)))
+  normal_form_is Negative (Iff f g) false p =
+      then (two (one_of (normal_form_is Positive f false p) (normal_form_is Negative g false p)) (one_of (normal_form_is Negative f false p) (normal_form_is Positive g false p)))
       (level f g p)
-  normal_form_is true (Ex x f) true p = some_number _ _ (λ v. normal_form_is true f true ((x, v) ∷ p))
-  normal_form_is true (Ex x f) false p = each_number _ _ (λ v. normal_form_is true f false ((x, v) ∷ p))
-  normal_form_is false (Ex x f) true p = each_number _ _ (λ v. normal_form_is false f true ((x, v) ∷ p))
-  normal_form_is false (Ex x f) false p = some_number _ _ (λ v. normal_form_is false f false ((x, v) ∷ p))
-  normal_form_is true (All x f) true p = each_number _ _ (λ v. normal_form_is true f true ((x, v) ∷ p))
-  normal_form_is true (All x f) false p = some_number _ _ (λ v. normal_form_is true f false ((x, v) ∷ p))
-  normal_form_is false (All x f) true p = some_number _ _ (λ v. normal_form_is false f true ((x, v) ∷ p))
-  normal_form_is false (All x f) false p = each_number _ _ (λ v. normal_form_is false f false ((x, v) ∷ p))
+  normal_form_is Positive (Ex x f) true p = some_number _ _ (λ v. normal_form_is Positive f true ((x, v) ∷ p))
+  normal_form_is Positive (Ex x f) false p = each_number _ _ (λ v. normal_form_is Positive f false ((x, v) ∷ p))
+  normal_form_is Negative (Ex x f) true p = each_number _ _ (λ v. normal_form_is Negative f true ((x, v) ∷ p))
+  normal_form_is Negative (Ex x f) false p = some_number _ _ (λ v. normal_form_is Negative f false ((x, v) ∷ p))
+  normal_form_is Positive (All x f) true p = each_number _ _ (λ v. normal_form_is Positive f true ((x, v) ∷ p))
+  normal_form_is Positive (All x f) false p = some_number _ _ (λ v. normal_form_is Positive f false ((x, v) ∷ p))
+  normal_form_is Negative (All x f) true p = some_number _ _ (λ v. normal_form_is Negative f true ((x, v) ∷ p))
+  normal_form_is Negative (All x f) false p = each_number _ _ (λ v. normal_form_is Negative f false ((x, v) ∷ p))
 
-  normal_forms_each : (b : Bool) (fs : Formulas) (c : Bool) (p : Point) → EachIs (normal_forms b fs) c p ↔ EachIs fs (agreeing b c) p
+  normal_forms_each : (b : Polarity) (fs : Formulas) (c : Bool) (p : Point) → EachIs (normal_forms b fs) c p ↔ EachIs fs (agreeing b c) p
   normal_forms_each b no_more c p = ((λ t. t), (λ t. t))
   normal_forms_each b (more f fs) c p =
       let first = normal_form_is b f c p in
       let rest = normal_forms_each b fs c p in
       ((λ t. (first.0 t.0, rest.0 t.1)), (λ t. (first.1 t.0, rest.1 t.1)))
 
-  normal_forms_some : (b : Bool) (fs : Formulas) (c : Bool) (p : Point) → SomeIs (normal_forms b fs) c p ↔ SomeIs fs (agreeing b c) p
+  normal_forms_some : (b : Polarity) (fs : Formulas) (c : Bool) (p : Point) → SomeIs (normal_forms b fs) c p ↔ SomeIs fs (agreeing b c) p
   normal_forms_some b no_more c p = ((λ t. t), (λ t. t))
   normal_forms_some b (more f fs) c p =
       let first = normal_form_is b f c p in
@@ -176,36 +153,36 @@ either_free p q t = elim t [ inl a ↦ inl (p a) | inr s ↦ elim s [ inl b ↦ 
 both_kinds : {A C : Type 0} → (A → C) → (A → C) → A ⊎ (A ⊎ ⊥) → C
 both_kinds p q t = elim t [ inl a ↦ p a | inr s ↦ elim s [ inl b ↦ q b | inr n ↦ absurd n ] ]
 
-pub free_connected : (b : Bool) (fs : Formulas) (x : ℕ) → IsFree x (connected b fs) → IsFreeInSome x fs
-free_connected true fs x o = o
-free_connected false fs x o = o
+pub free_connected : (b : Polarity) (fs : Formulas) (x : ℕ) → IsFree x (conjunction b fs) → IsFreeInSome x fs
+free_connected Positive fs x o = o
+free_connected Negative fs x o = o
 
-pub free_quantified : (b : Bool) (y : ℕ) (f : Formula) (x : ℕ) → IsFree x (quantified_if b y f) → (x ≡ y → ⊥) × IsFree x f
-free_quantified true y f x o = o
-free_quantified false y f x o = o
+pub free_quantified : (b : Polarity) (y : ℕ) (f : Formula) (x : ℕ) → IsFree x (existential b y f) → (x ≡ y → ⊥) × IsFree x f
+free_quantified Positive y f x o = o
+free_quantified Negative y f x o = o
 
-free_constant : (b : Bool) (x : ℕ) → IsFree x (constant b) → ⊥
-free_constant true x o = o
-free_constant false x o = o
+free_constant : (b : Polarity) (x : ℕ) → IsFree x (truth b) → ⊥
+free_constant Positive x o = o
+free_constant Negative x o = o
 
 mutual
-  pub free_normal : (b : Bool) (f : Formula) (x : ℕ) → IsFree x (normal_form b f) → IsFree x f
+  pub free_normal : (b : Polarity) (f : Formula) (x : ℕ) → IsFree x (normal_form b f) → IsFree x f
   free_normal b True x o = free_constant b x o
-  free_normal b False x o = free_constant (not b) x o
+  free_normal b False x o = free_constant (opposite b) x o
   free_normal b (Atom a) x o = o
   free_normal b (And fs) x o = free_normals b fs x (free_connected b (normal_forms b fs) x o)
-  free_normal b (Or fs) x o = free_normals b fs x (free_connected (not b) (normal_forms b fs) x o)
-  free_normal b (Not f) x o = free_normal (not b) f x o
-  free_normal b (Implies f g) x o = either_free (free_normal (not b) f x) (free_normal b g x) (free_connected (not b) _ x o)
+  free_normal b (Or fs) x o = free_normals b fs x (free_connected (opposite b) (normal_forms b fs) x o)
+  free_normal b (Not f) x o = free_normal (opposite b) f x o
+  free_normal b (Implies f g) x o = either_free (free_normal (opposite b) f x) (free_normal b g x) (free_connected (opposite b) _ x o)
   free_normal b (Iff f g) x o =
       elim o [
-        | inl s ↦ either_free (free_normal true f x) (free_normal b g x) s
-        | inr t ↦ elim t [ inl s ↦ either_free (free_normal false f x) (free_normal (not b) g x) s | inr n ↦ absurd n ]
+        | inl s ↦ either_free (free_normal Positive f x) (free_normal b g x) s
+        | inr t ↦ elim t [ inl s ↦ either_free (free_normal Negative f x) (free_normal (opposite b) g x) s | inr n ↦ absurd n ]
       ]
   free_normal b (Ex y f) x o = let h = free_quantified b y (normal_form b f) x o in (h.0, free_normal b f x h.1)
-  free_normal b (All y f) x o = let h = free_quantified (not b) y (normal_form b f) x o in (h.0, free_normal b f x h.1)
+  free_normal b (All y f) x o = let h = free_quantified (opposite b) y (normal_form b f) x o in (h.0, free_normal b f x h.1)
 
-  free_normals : (b : Bool) (fs : Formulas) (x : ℕ) → IsFreeInSome x (normal_forms b fs) → IsFreeInSome x fs
+  free_normals : (b : Polarity) (fs : Formulas) (x : ℕ) → IsFreeInSome x (normal_forms b fs) → IsFreeInSome x fs
   free_normals b no_more x o = o
   free_normals b (more f fs) x o = elim o [ inl h ↦ inl (free_normal b f x h) | inr h ↦ inr (free_normals b fs x h) ]
 
@@ -214,42 +191,42 @@ mutual
 either_free_back : {A B C D : Type 0} → (A → C) → (B → D) → A ⊎ B → C ⊎ (D ⊎ ⊥)
 either_free_back p q t = elim t [ inl a ↦ inl (p a) | inr b ↦ inr (inl (q b)) ]
 
-connected_free : (b : Bool) (fs : Formulas) (x : ℕ) → IsFreeInSome x fs → IsFree x (connected b fs)
-connected_free true fs x o = o
-connected_free false fs x o = o
+connected_free : (b : Polarity) (fs : Formulas) (x : ℕ) → IsFreeInSome x fs → IsFree x (conjunction b fs)
+connected_free Positive fs x o = o
+connected_free Negative fs x o = o
 
-quantified_free : (b : Bool) (y : ℕ) (f : Formula) (x : ℕ) → (x ≡ y → ⊥) × IsFree x f → IsFree x (quantified_if b y f)
-quantified_free true y f x o = o
-quantified_free false y f x o = o
+quantified_free : (b : Polarity) (y : ℕ) (f : Formula) (x : ℕ) → (x ≡ y → ⊥) × IsFree x f → IsFree x (existential b y f)
+quantified_free Positive y f x o = o
+quantified_free Negative y f x o = o
 
 mutual
-  pub normal_free : (b : Bool) (f : Formula) (x : ℕ) → IsFree x f → IsFree x (normal_form b f)
+  pub normal_free : (b : Polarity) (f : Formula) (x : ℕ) → IsFree x f → IsFree x (normal_form b f)
   normal_free b True x o = absurd o
   normal_free b False x o = absurd o
   normal_free b (Atom a) x o = o
   normal_free b (And fs) x o = connected_free b (normal_forms b fs) x (normals_free b fs x o)
-  normal_free b (Or fs) x o = connected_free (not b) (normal_forms b fs) x (normals_free b fs x o)
-  normal_free b (Not f) x o = normal_free (not b) f x o
-  normal_free b (Implies f g) x o = connected_free (not b) _ x (either_free_back (normal_free (not b) f x) (normal_free b g x) o)
-  normal_free b (Iff f g) x o = inl (either_free_back (normal_free true f x) (normal_free b g x) o)
+  normal_free b (Or fs) x o = connected_free (opposite b) (normal_forms b fs) x (normals_free b fs x o)
+  normal_free b (Not f) x o = normal_free (opposite b) f x o
+  normal_free b (Implies f g) x o = connected_free (opposite b) _ x (either_free_back (normal_free (opposite b) f x) (normal_free b g x) o)
+  normal_free b (Iff f g) x o = inl (either_free_back (normal_free Positive f x) (normal_free b g x) o)
   normal_free b (Ex y f) x o = quantified_free b y (normal_form b f) x (o.0, normal_free b f x o.1)
-  normal_free b (All y f) x o = quantified_free (not b) y (normal_form b f) x (o.0, normal_free b f x o.1)
+  normal_free b (All y f) x o = quantified_free (opposite b) y (normal_form b f) x (o.0, normal_free b f x o.1)
 
-  normals_free : (b : Bool) (fs : Formulas) (x : ℕ) → IsFreeInSome x fs → IsFreeInSome x (normal_forms b fs)
+  normals_free : (b : Polarity) (fs : Formulas) (x : ℕ) → IsFreeInSome x fs → IsFreeInSome x (normal_forms b fs)
   normals_free b no_more x o = o
   normals_free b (more f fs) x o = elim o [ inl h ↦ inl (normal_free b f x h) | inr h ↦ inr (normals_free b fs x h) ]
 
-agreed_truth : (b : Bool) (f : Formula) (p : Point) → Is f true p ⊎ Is f false p → Is f (agreeing b true) p ⊎ Is f (agreeing b false) p
-agreed_truth true f p h = h
-agreed_truth false f p h = elim h [ inl t ↦ inr t | inr e ↦ inl e ]
+agreed_truth : (b : Polarity) (f : Formula) (p : Point) → Is f true p ⊎ Is f false p → Is f (agreeing b true) p ⊎ Is f (agreeing b false) p
+agreed_truth Positive f p h = h
+agreed_truth Negative f p h = elim h [ inl t ↦ inr t | inr e ↦ inl e ]
 
 -- where the formula is decided, its normal form is
-pub decided_normal : (b : Bool) (f : Formula) → IsDecided f → IsDecided (normal_form b f)
+pub decided_normal : (b : Polarity) (f : Formula) → IsDecided f → IsDecided (normal_form b f)
 decided_normal b f settled p valid gives =
     elim (agreed_truth b f p (settled p valid (λ x o. gives x (normal_free b f x o)))) [
       | inl t ↦ inl ((normal_form_is b f true p).1 t)
       | inr e ↦ inr ((normal_form_is b f false p).1 e)
     ]
 
-pub normal_is_same : (f : Formula) → Same f (normal_form true f)
-normal_is_same f = record { free = λ x o. free_normal true f x o; agree = λ p valid gives c. let r = normal_form_is true f c p in (r.1, r.0) }
+pub normal_is_same : (f : Formula) → Same f (normal_form Positive f)
+normal_is_same f = record { free = λ x o. free_normal Positive f x o; agree = λ p valid gives c. let r = normal_form_is Positive f c p in (r.1, r.0) }

@@ -10,16 +10,15 @@ use Rattle.qe_form.specs.Formula as formula
 use Rattle.qe_form.specs.Truth.{Is}
 use Rattle.qe_form.specs.Same.{IsFree, IsFreeInSome}
 use Rattle.qe_form.proofs.FreeReads.{truth_reads}
-use Rattle.qe_norm.specs.declared.prenex.Kind.{Kind}
-use Rattle.qe_norm.specs.declared.prenex.Kind.TheVariants.{Ex, All}
+use Rattle.qe_form.specs.Blocks.{Kind, exists, for_all, under_one}
 use Rattle.qe_norm.specs.declared.walk.Quantifier.{Quantifier}
-use Rattle.qe_norm.specs.Blocks.{quantified, prefix, prefix_each, matrix, matrix_each}
+use Rattle.qe_norm.specs.Blocks.{kind_of, prefix, prefix_each, matrix, matrix_each}
 use Rattle.qe_norm.proofs.Binders.{Binds, BindsIn, IsReady, AreReady}
 
 -- the formula under quantifiers, the first outermost
 abbrev pub under : List Quantifier → Formula → Formula
 under [] f = f
-under (q ∷ qs) f = quantified q.kind q.var.0 (under qs f)
+under (q ∷ qs) f = under_one (kind_of q.kind) q.var.0 (under qs f)
 
 -- the variable is that of one of the quantifiers
 abbrev pub IsVariable : ℕ → List Quantifier → Type 0
@@ -83,20 +82,20 @@ ranging_moved false P Q move t = λ v k. move v k (t v k)
 
 -- whether a quantifier at a truth speaks of some number
 abbrev range : Kind → Bool → Bool
-range Ex b = b
-range All b = not b
+range exists b = b
+range for_all b = not b
 
-ranges : (k : Kind) (x : ℕ) (f : Formula) (b : Bool) (p : Point) → Is (quantified k x f) b p → Ranging (range k b) (λ v. Is f b ((x, v) ∷ p))
-ranges Ex x f true p t = t
-ranges Ex x f false p t = t
-ranges All x f true p t = t
-ranges All x f false p t = t
+ranges : (k : Kind) (x : ℕ) (f : Formula) (b : Bool) (p : Point) → Is (under_one k x f) b p → Ranging (range k b) (λ v. Is f b ((x, v) ∷ p))
+ranges exists x f true p t = t
+ranges exists x f false p t = t
+ranges for_all x f true p t = t
+ranges for_all x f false p t = t
 
-ranges_back : (k : Kind) (x : ℕ) (f : Formula) (b : Bool) (p : Point) → Ranging (range k b) (λ v. Is f b ((x, v) ∷ p)) → Is (quantified k x f) b p
-ranges_back Ex x f true p t = t
-ranges_back Ex x f false p t = t
-ranges_back All x f true p t = t
-ranges_back All x f false p t = t
+ranges_back : (k : Kind) (x : ℕ) (f : Formula) (b : Bool) (p : Point) → Ranging (range k b) (λ v. Is f b ((x, v) ∷ p)) → Is (under_one k x f) b p
+ranges_back exists x f true p t = t
+ranges_back exists x f false p t = t
+ranges_back for_all x f true p t = t
+ranges_back for_all x f false p t = t
 
 -- ---- truth where a variable is not free
 
@@ -109,14 +108,14 @@ not_free_reads f b x v p none t =
 
 -- ---- quantifiers of two parts
 
-free_quantified : (k : Kind) (x : ℕ) (f : Formula) (z : ℕ) → IsFree z (quantified k x f) → (z ≡ x → ⊥) × IsFree z f
-free_quantified Ex x f z o = o
-free_quantified All x f z o = o
+free_quantified : (k : Kind) (x : ℕ) (f : Formula) (z : ℕ) → IsFree z (under_one k x f) → (z ≡ x → ⊥) × IsFree z f
+free_quantified exists x f z o = o
+free_quantified for_all x f z o = o
 
 pub free_under : (qs : List Quantifier) (f : Formula) (z : ℕ) → IsFree z (under qs f) → (IsVariable z qs → ⊥) × IsFree z f
 free_under [] f z o = ((λ h. h), o)
 free_under (q ∷ qs) f z o =
-    let first = free_quantified q.kind q.var.0 (under qs f) z o in
+    let first = free_quantified (kind_of q.kind) q.var.0 (under qs f) z o in
     let rest = free_under qs f z first.1 in
     ((λ h. elim h [ inl e ↦ first.0 e | inr k ↦ rest.0 k ]), rest.1)
 
@@ -134,22 +133,22 @@ module _ (j b : Bool) (joined : Formula) (left right : Formula) (made : (p : Poi
   out_right : (qs : List Quantifier) → ((z : ℕ) → IsVariable z qs → IsFree z left → ⊥) → (p : Point) → Joint j (Is left b p) (Is (under qs right) b p) → Is (under qs joined) b p
   out_right [] free p t = made p t
   out_right (q ∷ qs) free p t =
-      ranges_back q.kind q.var.0 (under qs joined) b p
-      (ranging_moved (range q.kind b) _ _ (λ v k h. out_right qs (λ z i. free z (inr i)) ((q.var.0, v) ∷ p) h)
-      (right_out j (range q.kind b) (λ v. Is (under qs right) b ((q.var.0, v) ∷ p)) (Is left b p) (λ v. Is left b ((q.var.0, v) ∷ p))
+      ranges_back (kind_of q.kind) q.var.0 (under qs joined) b p
+      (ranging_moved (range (kind_of q.kind) b) _ _ (λ v k h. out_right qs (λ z i. free z (inr i)) ((q.var.0, v) ∷ p) h)
+      (right_out j (range (kind_of q.kind) b) (λ v. Is (under qs right) b ((q.var.0, v) ∷ p)) (Is left b p) (λ v. Is left b ((q.var.0, v) ∷ p))
       (λ v h. not_free_reads left b q.var.0 v p (free q.var.0 (inl refl)) h)
-      (joint_right j (Is left b p) (Is (under (q ∷ qs) right) b p) (Ranging (range q.kind b) (λ v. Is (under qs right) b ((q.var.0, v) ∷ p))) (ranges q.kind q.var.0 (under qs right) b p) t)))
+      (joint_right j (Is left b p) (Is (under (q ∷ qs) right) b p) (Ranging (range (kind_of q.kind) b) (λ v. Is (under qs right) b ((q.var.0, v) ∷ p))) (ranges (kind_of q.kind) q.var.0 (under qs right) b p) t)))
 
   -- those of the left part, and then those of the right part
   pub out_both : (ps qs : List Quantifier) → ((z : ℕ) → IsVariable z ps → IsFree z (under qs right) → ⊥) → ((z : ℕ) → IsVariable z qs → IsFree z left → ⊥)
       → (p : Point) → Joint j (Is (under ps left) b p) (Is (under qs right) b p) → Is (under (ps ++ qs) joined) b p
   out_both [] qs first second p t = out_right qs second p t
   out_both (q ∷ ps) qs first second p t =
-      ranges_back q.kind q.var.0 (under (ps ++ qs) joined) b p
-      (ranging_moved (range q.kind b) _ _ (λ v k h. out_both ps qs (λ z i. first z (inr i)) second ((q.var.0, v) ∷ p) h)
-      (left_out j (range q.kind b) (λ v. Is (under ps left) b ((q.var.0, v) ∷ p)) (Is (under qs right) b p) (λ v. Is (under qs right) b ((q.var.0, v) ∷ p))
+      ranges_back (kind_of q.kind) q.var.0 (under (ps ++ qs) joined) b p
+      (ranging_moved (range (kind_of q.kind) b) _ _ (λ v k h. out_both ps qs (λ z i. first z (inr i)) second ((q.var.0, v) ∷ p) h)
+      (left_out j (range (kind_of q.kind) b) (λ v. Is (under ps left) b ((q.var.0, v) ∷ p)) (Is (under qs right) b p) (λ v. Is (under qs right) b ((q.var.0, v) ∷ p))
       (λ v h. not_free_reads (under qs right) b q.var.0 v p (first q.var.0 (inl refl)) h)
-      (joint_left j (Is (under (q ∷ ps) left) b p) (Is (under qs right) b p) (Ranging (range q.kind b) (λ v. Is (under ps left) b ((q.var.0, v) ∷ p))) (ranges q.kind q.var.0 (under ps left) b p) t)))
+      (joint_left j (Is (under (q ∷ ps) left) b p) (Is (under qs right) b p) (Ranging (range (kind_of q.kind) b) (λ v. Is (under ps left) b ((q.var.0, v) ∷ p))) (ranges (kind_of q.kind) q.var.0 (under ps left) b p) t)))
 
 -- ---- the variables of prefix and matrix
 

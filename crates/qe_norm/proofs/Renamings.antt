@@ -9,7 +9,8 @@ use Rattle.qe_poly.specs.Renamed.{renamed}
 use Rattle.qe_form.specs.Value.{value}
 use Rattle.qe_poly.specs.Occurs.{OccursInSome}
 use Rattle.qe_form.proofs.Values.{number_at_valid}
-use Rattle.qe_form.proofs.Renamed.{stands_nowhere, occurs_renamed, same_sign}
+use Rattle.qe_poly.proofs.Occurring.{occurs_nowhere}
+use Rattle.qe_form.proofs.Renamed.{occurs_renamed, same_sign}
 use Rattle.qe_norm.specs.declared.walk.Renaming.{Renaming}
 use Rattle.qe_norm.specs.Numbering.{renamed_by}
 
@@ -90,7 +91,7 @@ fresh q n (r ∷ rs) m h small =
     let none : OccursInSome r.to.0 q → ⊥ = λ o. (let k = small r.to.0 o in let l = h.0 in omega arith) in (
       none,
       fresh (renamed r.from r.to q) (suc r.to.0) rs m h.1 (λ z o.
-          elim (occurs_renamed r.from r.to z q (stands_nowhere r.to.0 q none) o) [ inl k ↦ (let e = k.0 in omega arith) | inr k ↦ (let l = small z k.1 in let u = h.0 in omega arith) ]),
+          elim (occurs_renamed r.from r.to z q (occurs_nowhere r.to.0 q none) o) [ inl k ↦ (let e = k.0 in omega arith) | inr k ↦ (let l = small z k.1 in let u = h.0 in omega arith) ]),
     )
 
 -- each variable that occurs comes from one that occurred
@@ -101,7 +102,7 @@ occurs_from q n rs m rising small z o = from q rs (fresh q n rs m rising small) 
     from q [] new z o = (z, o, refl)
     from q (r ∷ rs) new z o =
         let h = from (renamed r.from r.to q) rs new.1 z o in
-        elim (occurs_renamed r.from r.to h.0 q (stands_nowhere r.to.0 q new.0) h.1) [
+        elim (occurs_renamed r.from r.to h.0 q (occurs_nowhere r.to.0 q new.0) h.1) [
           | inl k ↦ (r.from.0, k.1, h.2 ∙ (ap (image rs) k.0 ∙ ap (λ b. image rs (cond b r.to.0 r.from.0)) (sym (eqb_itself r.from.0 r.from.0 refl))))
           | inr k ↦ (h.0, k.1, h.2 ∙ ap (λ b. image rs (cond b r.to.0 h.0)) (sym (eqb_apart r.from.0 h.0 (λ e. k.0 (sym e)))))
         ]
@@ -173,4 +174,4 @@ seen_sign q n rs m rising small p valid = go q rs (fresh q n rs m rising small)
   where
     go : (q : Polynomial) (rs : List Renaming) → Fresh q rs → sign_of (value (renamed_by rs q) p) ≡ sign_of (value q (seen rs p))
     go q [] new = refl
-    go q (r ∷ rs) new = go (renamed r.from r.to q) rs new.1 ∙ same_sign r.from r.to q (seen rs p) (seen_valid rs p valid) (stands_nowhere r.to.0 q new.0)
+    go q (r ∷ rs) new = go (renamed r.from r.to q) rs new.1 ∙ same_sign r.from r.to q (seen rs p) (seen_valid rs p valid) (occurs_nowhere r.to.0 q new.0)

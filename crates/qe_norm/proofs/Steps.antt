@@ -1,9 +1,9 @@
 -- What a walk has met: the variables that are taken, and how a quantifier adds to them.
-use Rattle.std.proofs.Common.{ℕ, ◌+◌, ◌<◌, ◌≤◌, Bool, true, false, cond, ◌&&◌, ltb, ◌≡◌, ◌∙◌, inl, inr, refl, sym, [], ◌∷◌, ◌++◌, length, get_or, set, length-append, length-set, get_or-set_same, get_or-set_other, arith}
+use Rattle.std.proofs.Common.{ℕ, ◌+◌, ◌<◌, ◌≤◌, Bool, true, false, cond, ◌&&◌, ltb, ◌≡◌, ◌∙◌, inl, inr, refl, sym, [], ◌∷◌, length, get_or, length-append, length-set, get_or-set_same, get_or-set_other, arith}
 use Rattle.std.proofs.lemmas.Bool.{cases_eq}
 use Rattle.std.proofs.lemmas.Bool.Decides.{nat_tests}
 use Rattle.std.specs.Prelude.{unwrap_or, slice_get}
-use Rattle.qe_norm.specs.Numbering.{Walked, is_copy, number, after}
+use Rattle.qe_norm.specs.Numbering.{Walked, is_copy, new_variable, named_again, met_first, met_after}
 
 no_way : {A : Type 0} {b : Bool} → b ≡ true → b ≡ false → A
 no_way e f = absurd (cc)
@@ -56,18 +56,10 @@ module _ (n : ℕ) (Bound : ℕ → Type 0) (below : (z : ℕ) → Bound z → z
   copy_is w x room = and_true (is_met w x) (ltb (length w.names) 4294967295) (room_holds (length w.names) room)
 
   module _ (w : Walked) (x : ℕ) (walked : IsWalked w) (is_bound : Bound x) where
-    -- the name of x comes again
-    abbrev copied : Walked
-    copied = record { met = w.met; names = w.names ++ unwrap_or (slice_get w.names x) [] ∷ [] }
-
-    -- x is met
-    abbrev begun : Walked
-    begun = record { met = set w.met x true; names = w.names }
-
-    one_more : length copied.names ≡ length w.names + 1
+    one_more : length (named_again w x).names ≡ length w.names + 1
     one_more = length-append w.names (unwrap_or (slice_get w.names x) [] ∷ [])
 
-    copied_step : Step w copied 1
+    copied_step : Step w (named_again w x) 1
     copied_step = record {
       walked = record { met = walked.met; names = omega (arith, one_more, walked.names) };
       keeps = λ z t. record { named = omega (arith, one_more, t.named); met = t.met };
@@ -75,7 +67,7 @@ module _ (n : ℕ) (Bound : ℕ → Type 0) (below : (z : ℕ) → Bound z → z
       grows = omega (arith, one_more);
     }
 
-    copied_new : IsNew w copied (length w.names)
+    copied_new : IsNew w (named_again w x) (length w.names)
     copied_new = record {
       taken = record { named = omega (arith, one_more); met = λ b. absurd (let h = below (length w.names) b in let k = walked.names in omega arith) };
       fresh = λ t. (let h = t.named in omega arith);
@@ -84,10 +76,10 @@ module _ (n : ℕ) (Bound : ℕ → Type 0) (below : (z : ℕ) → Bound z → z
     within_met : x < length w.met
     within_met = (let h = below x is_bound in let k = walked.met in omega arith)
 
-    met_more : (z : ℕ) → is_met w z ≡ true → is_met begun z ≡ true
+    met_more : (z : ℕ) → is_met w z ≡ true → is_met (met_first w x) z ≡ true
     met_more z h = elim (cases_eq z x) [ inl e ↦ rw e (get_or-set_same w.met x true false within_met) | inr e ↦ get_or-set_other w.met x z true false e ∙ h ]
 
-    begun_step : Step w begun 1
+    begun_step : Step w (met_first w x) 1
     begun_step = record {
       walked = record { met = length-set w.met x true ∙ walked.met; names = walked.names };
       keeps = λ z t. record { named = t.named; met = λ b. met_more z (t.met b) };
@@ -95,16 +87,16 @@ module _ (n : ℕ) (Bound : ℕ → Type 0) (below : (z : ℕ) → Bound z → z
       grows = omega arith;
     }
 
-    begun_new : is_met w x ≡ false → IsNew w begun x
+    begun_new : is_met w x ≡ false → IsNew w (met_first w x) x
     begun_new none = record {
       taken = record { named = (let h = below x is_bound in let k = walked.names in omega arith); met = λ b. get_or-set_same w.met x true false within_met };
       fresh = λ t. no_way (t.met is_bound) none;
     }
 
-    by_test : (b : Bool) → is_copy w x ≡ b → length w.names < 4294967295 → Step w (cond b copied begun) 1 × IsNew w (cond b copied begun) (cond b (length w.names) x)
+    by_test : (b : Bool) → is_copy w x ≡ b → length w.names < 4294967295 → Step w (cond b (named_again w x) (met_first w x)) 1 × IsNew w (cond b (named_again w x) (met_first w x)) (cond b (length w.names) x)
     by_test true test room = (copied_step, copied_new)
     by_test false test room = (begun_step, begun_new (sym (copy_is w x room) ∙ test))
 
     -- a quantifier is met: its variable was not taken before, and is taken then
-    pub after_step : length w.names < 4294967295 → Step w (after w x) 1 × IsNew w (after w x) (number w x)
+    pub after_step : length w.names < 4294967295 → Step w (met_after w x) 1 × IsNew w (met_after w x) (new_variable w x)
     after_step room = by_test (is_copy w x) refl room

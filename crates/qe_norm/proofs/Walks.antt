@@ -3,7 +3,7 @@
 use Rattle.std.proofs.Common.{ℕ, ◌+◌, ◌<◌, Bool, true, false, cond, eqb, ◌≡◌, ◌≢◌, ◌∙◌, ◌⊎◌, inl, inr, refl, sym, ap, subst, List, [], ◌∷◌, ◌++◌, length, length-append, Some, if◌then◌else◌, arith}
 use Rattle.std.proofs.lemmas.Bool.{cases_eq}
 use Rattle.std.proofs.lemmas.Bool.Decides.{nat_tests}
-use Rattle.std.specs.Prelude.{unwrap_or, slice_get, slice_set}
+use Rattle.std.specs.Prelude.{unwrap_or, slice_get}
 use Rattle.qe_tower.specs.Number.{Number, IsNumber}
 use Rattle.qe_tower.specs.Point.{Point, IsPoint, look_up, or_zero, number_at}
 use Rattle.qe_form.specs.declared.form.Atom as atom
@@ -13,7 +13,7 @@ use Rattle.qe_form.specs.Same.{IsFree, IsFreeInSome}
 use Rattle.qe_form.specs.Measures as measures
 use Rattle.qe_form.proofs.FreeReads.{truth_reads}
 use Rattle.qe_norm.specs.declared.walk.Renaming.{Renaming}
-use Rattle.qe_norm.specs.Numbering.{Walked, is_copy, number, after, within, numbered, numbered_each}
+use Rattle.qe_norm.specs.Numbering.{Walked, is_copy, new_variable, named_again, met_first, met_after, to_copy, within, numbered, numbered_each}
 use Rattle.qe_norm.proofs.Binders.{Binds, BindsIn, IsReady, AreReady}
 use Rattle.qe_norm.proofs.Outwards.{IsApart, AreApart}
 use Rattle.qe_norm.proofs.Steps.{IsWalked, IsTaken, Step, IsNew, step_none, step_then, after_step}
@@ -98,10 +98,6 @@ module _ (n : ℕ) (Bound : ℕ → Type 0) (below : (z : ℕ) → Bound z → z
   -- ---- quantifiers
 
   module _ (x : ℕ) (f : Formula) (rs : List Renaming) (w : Walked) (fits : Fits (Ex x f) rs w) where
-    -- the renaming of a copy
-    abbrev copied : Renaming
-    copied = record { from = record { 0 = x }; to = record { 0 = length w.names } }
-
     is_bound : Bound x
     is_bound = fits.bound x (inl refl)
 
@@ -114,13 +110,13 @@ module _ (n : ℕ) (Bound : ℕ → Type 0) (below : (z : ℕ) → Bound z → z
     here : length w.names < 4294967295
     here = (let h = fits.room in omega arith)
 
-    stepped : Step n Bound below w (after w x) 1 × IsNew n Bound below w (after w x) (number w x)
+    stepped : Step n Bound below w (met_after w x) 1 × IsNew n Bound below w (met_after w x) (new_variable w x)
     stepped = after_step n Bound below w x fits.walked is_bound here
 
     -- x ends at its new variable
-    image_x : image (within w x rs) x ≡ number w x
-    image_x = elim (is_copy w x) as (λ b. image (cond b (rs ++ copied ∷ []) rs) x ≡ cond b (length w.names) x) [
-      | true ↦ image_push rs copied x ∙ ap (λ i. cond (eqb x i) (length w.names) i) (image_stays rs x not_source) ∙ ap (λ b. cond b (length w.names) x) (eqb_itself x x refl)
+    image_x : image (within w x rs) x ≡ new_variable w x
+    image_x = elim (is_copy w x) as (λ b. image (cond b (rs ++ to_copy w x ∷ []) rs) x ≡ cond b (length w.names) x) [
+      | true ↦ image_push rs (to_copy w x) x ∙ ap (λ i. cond (eqb x i) (length w.names) i) (image_stays rs x not_source) ∙ ap (λ b. cond b (length w.names) x) (eqb_itself x x refl)
       | false ↦ image_stays rs x not_source
     ]
 
@@ -129,25 +125,25 @@ module _ (n : ℕ) (Bound : ℕ → Type 0) (below : (z : ℕ) → Bound z → z
 
     -- and any other where it ended before
     image_other : (z : ℕ) → z ≢ x → image (within w x rs) z ≡ image rs z
-    image_other z apart = elim (is_copy w x) as (λ b. image (cond b (rs ++ copied ∷ []) rs) z ≡ image rs z) [
-      | true ↦ image_push rs copied z ∙ ap (λ b. cond b (length w.names) (image rs z)) (eqb_apart x (image rs z) (not_x z apart))
+    image_other z apart = elim (is_copy w x) as (λ b. image (cond b (rs ++ to_copy w x ∷ []) rs) z ≡ image rs z) [
+      | true ↦ image_push rs (to_copy w x) z ∙ ap (λ b. cond b (length w.names) (image rs z)) (eqb_apart x (image rs z) (not_x z apart))
       | false ↦ refl
     ]
 
-    body_rising : Rising n (within w x rs) (length (after w x).names)
-    body_rising = elim (is_copy w x) as (λ b. Rising n (cond b (rs ++ copied ∷ []) rs)
-        (length (cond {A = Walked} b (record { met = w.met; names = w.names ++ unwrap_or (slice_get w.names x) [] ∷ [] }) (record { met = slice_set w.met x true; names = w.names })).names)) [
-          | true ↦ rising_push n rs copied (length w.names) _ refl (let e = length-append w.names (unwrap_or (slice_get w.names x) [] ∷ []) in omega arith) fits.rising
+    body_rising : Rising n (within w x rs) (length (met_after w x).names)
+    body_rising = elim (is_copy w x) as (λ b. Rising n (cond b (rs ++ to_copy w x ∷ []) rs)
+        (length (cond {A = Walked} b (named_again w x) (met_first w x)).names)) [
+          | true ↦ rising_push n rs (to_copy w x) (length w.names) _ refl (let e = length-append w.names (unwrap_or (slice_get w.names x) [] ∷ []) in omega arith) fits.rising
           | false ↦ fits.rising
         ]
 
     body_source : (z : ℕ) → IsSource z (within w x rs) → IsSource z rs ⊎ (x ≡ z)
-    body_source z = elim (is_copy w x) as (λ b. IsSource z (cond b (rs ++ copied ∷ []) rs) → IsSource z rs ⊎ (x ≡ z)) [ true ↦ λ s. source_push z rs copied s | false ↦ λ s. inl s ]
+    body_source z = elim (is_copy w x) as (λ b. IsSource z (cond b (rs ++ to_copy w x ∷ []) rs) → IsSource z rs ⊎ (x ≡ z)) [ true ↦ λ s. source_push z rs (to_copy w x) s | false ↦ λ s. inl s ]
 
     pub body_small : (z : ℕ) → IsFree z f → z < n
     body_small z o = elim (cases_eq z x) [ inl e ↦ (let k = x_small in let d = e in omega arith) | inr e ↦ fits.small z (e, o) ]
 
-    pub body_fits : Fits f (within w x rs) (after w x)
+    pub body_fits : Fits f (within w x rs) (met_after w x)
     body_fits = record {
       walked = stepped.0.walked;
       room = (let h = fits.room in let k = stepped.0.grows in omega arith);
@@ -157,8 +153,8 @@ module _ (n : ℕ) (Bound : ℕ → Type 0) (below : (z : ℕ) → Bound z → z
       bound = λ z h. fits.bound z (inr h);
       unmet = λ z h s. elim (body_source z s) [ inl k ↦ fits.unmet z (inr h) k | inr e ↦ fits.ready.0 (subst (λ i. Binds i f) (sym e) h) ];
       taken = λ z o. elim (cases_eq z x) [
-        | inl e ↦ subst (λ i. IsTaken n Bound below (after w x) i) (sym (ap (image (within w x rs)) e ∙ image_x)) stepped.1.taken
-        | inr e ↦ subst (λ i. IsTaken n Bound below (after w x) i) (sym (image_other z e)) (stepped.0.keeps (image rs z) (fits.taken z (e, o)))
+        | inl e ↦ subst (λ i. IsTaken n Bound below (met_after w x) i) (sym (ap (image (within w x rs)) e ∙ image_x)) stepped.1.taken
+        | inr e ↦ subst (λ i. IsTaken n Bound below (met_after w x) i) (sym (image_other z e)) (stepped.0.keeps (image rs z) (fits.taken z (e, o)))
       ];
       ready = fits.ready.1;
     }
@@ -168,19 +164,19 @@ module _ (n : ℕ) (Bound : ℕ → Type 0) (below : (z : ℕ) → Bound z → z
       abbrev wanted : Number
       wanted = with_one x u (number_at (seen rs p) z) z
 
-      seen_copied : number_at (seen (rs ++ copied ∷ []) ((length w.names, u) ∷ p)) z ≡ wanted
+      seen_copied : number_at (seen (rs ++ to_copy w x ∷ []) ((length w.names, u) ∷ p)) z ≡ wanted
       seen_copied =
           let itself : number_at ((length w.names, u) ∷ p) (length w.names) ≡ u = ap (λ b. or_zero (if b then Some u else look_up p (length w.names))) (eqb_itself (length w.names) (length w.names) refl) in
           let apart : eqb (length w.names) z ≡ false = eqb_apart (length w.names) z (λ e. (let k = fits.walked.names in let d = e in omega arith)) in
-          ap (λ q. number_at q z) (seen_push rs copied ((length w.names, u) ∷ p))
+          ap (λ q. number_at q z) (seen_push rs (to_copy w x) ((length w.names, u) ∷ p))
           ∙ ap (λ i. number_at (seen rs ((x, i) ∷ (length w.names, u) ∷ p)) z) itself
           ∙ seen_other rs x u ((length w.names, u) ∷ p) (avoids_below n rs (length w.names) x fits.rising x_small not_source) z
           ∙ ap (λ i. with_one x u i z)
           (seen_other rs (length w.names) u p (avoids_above n rs (length w.names) (length w.names) fits.rising (omega arith) (λ y s. (let h = fits.sources y s in let k = fits.walked.names in omega arith))) z
           ∙ ap (λ b. cond b u (number_at (seen rs p) z)) apart)
 
-      seen_within : number_at (seen (within w x rs) ((number w x, u) ∷ p)) z ≡ wanted
-      seen_within = elim (is_copy w x) as (λ b. number_at (seen (cond b (rs ++ copied ∷ []) rs) ((cond b (length w.names) x, u) ∷ p)) z ≡ wanted) [
+      seen_within : number_at (seen (within w x rs) ((new_variable w x, u) ∷ p)) z ≡ wanted
+      seen_within = elim (is_copy w x) as (λ b. number_at (seen (cond b (rs ++ to_copy w x ∷ []) rs) ((cond b (length w.names) x, u) ∷ p)) z ≡ wanted) [
         | true ↦ seen_copied
         | false ↦ seen_other rs x u p (avoids_below n rs (length w.names) x fits.rising x_small not_source) z
       ]
@@ -188,26 +184,26 @@ module _ (n : ℕ) (Bound : ℕ → Type 0) (below : (z : ℕ) → Bound z → z
       seen_x : number_at ((x, u) ∷ seen rs p) z ≡ wanted
       seen_x = elim (eqb x z) as (λ b. or_zero (if b then Some u else look_up (seen rs p) z) ≡ cond b u (or_zero (look_up (seen rs p) z))) [ true ↦ refl | false ↦ refl ]
 
-      pub seen_alike : number_at ((x, u) ∷ seen rs p) z ≡ number_at (seen (within w x rs) ((number w x, u) ∷ p)) z
+      pub seen_alike : number_at ((x, u) ∷ seen rs p) z ≡ number_at (seen (within w x rs) ((new_variable w x, u) ∷ p)) z
       seen_alike = seen_x ∙ sym seen_within
 
-    module _ (g : Formula) (v : Walked) (made : Made f (within w x rs) (after w x) g v) where
+    module _ (g : Formula) (v : Walked) (made : Made f (within w x rs) (met_after w x) g v) where
       -- the body at a number
-      body_truth : (b : Bool) (u : Number) → IsNumber u → (p : Point) → IsPoint p → Is f b ((x, u) ∷ seen rs p) → Is g b ((number w x, u) ∷ p)
+      body_truth : (b : Bool) (u : Number) → IsNumber u → (p : Point) → IsPoint p → Is f b ((x, u) ∷ seen rs p) → Is g b ((new_variable w x, u) ∷ p)
       body_truth b u k p valid t =
-          made.truth b ((number w x, u) ∷ p) (k, valid) (truth_reads f b ((x, u) ∷ seen rs p) (seen (within w x rs) ((number w x, u) ∷ p)) (λ z o. seen_alike u p z (body_small z o)) t)
+          made.truth b ((new_variable w x, u) ∷ p) (k, valid) (truth_reads f b ((x, u) ∷ seen rs p) (seen (within w x rs) ((new_variable w x, u) ∷ p)) (λ z o. seen_alike u p z (body_small z o)) t)
 
-      own_variable : Binds (number w x) g → ⊥
-      own_variable h = (made.new (number w x) h).fresh stepped.1.taken
+      own_variable : Binds (new_variable w x) g → ⊥
+      own_variable h = (made.new (new_variable w x) h).fresh stepped.1.taken
 
-      quantified_new : (z : ℕ) → (z ≡ number w x) ⊎ Binds z g → IsNew n Bound below w v z
+      quantified_new : (z : ℕ) → (z ≡ new_variable w x) ⊎ Binds z g → IsNew n Bound below w v z
       quantified_new z h =
           elim h [
-            | inl e ↦ subst (λ i. IsNew n Bound below w v i) (sym e) (record { taken = made.step.keeps (number w x) stepped.1.taken; fresh = stepped.1.fresh })
+            | inl e ↦ subst (λ i. IsNew n Bound below w v i) (sym e) (record { taken = made.step.keeps (new_variable w x) stepped.1.taken; fresh = stepped.1.fresh })
             | inr k ↦ (let m = made.new z k in record { taken = m.taken; fresh = λ t. m.fresh (stepped.0.keeps z t) })
           ]
 
-      quantified_free : (z : ℕ) → (z ≡ number w x → ⊥) × IsFree z g → (u : ℕ) × ((u ≡ x → ⊥) × IsFree u f) × (z ≡ image rs u)
+      quantified_free : (z : ℕ) → (z ≡ new_variable w x → ⊥) × IsFree z g → (u : ℕ) × ((u ≡ x → ⊥) × IsFree u f) × (z ≡ image rs u)
       quantified_free z o =
           let h = made.free z o.1 in
           elim (cases_eq h.0 x) [
@@ -216,17 +212,17 @@ module _ (n : ℕ) (Bound : ℕ → Type 0) (below : (z : ℕ) → Bound z → z
           ]
 
       quantified_step : Step n Bound below w v (1 + measures.count f)
-      quantified_step = step_then n Bound below w (after w x) v 1 (measures.count f) stepped.0 made.step
+      quantified_step = step_then n Bound below w (met_after w x) v 1 (measures.count f) stepped.0 made.step
 
-      ex_truth : (b : Bool) (p : Point) → IsPoint p → Is (Ex x f) b (seen rs p) → Is (Ex (number w x) g) b p
+      ex_truth : (b : Bool) (p : Point) → IsPoint p → Is (Ex x f) b (seen rs p) → Is (Ex (new_variable w x) g) b p
       ex_truth true p valid t = (t.0, t.1, body_truth true t.0 t.1 p valid t.2)
       ex_truth false p valid t = λ u k. body_truth false u k p valid (t u k)
 
-      all_truth : (b : Bool) (p : Point) → IsPoint p → Is (All x f) b (seen rs p) → Is (All (number w x) g) b p
+      all_truth : (b : Bool) (p : Point) → IsPoint p → Is (All x f) b (seen rs p) → Is (All (new_variable w x) g) b p
       all_truth true p valid t = λ u k. body_truth true u k p valid (t u k)
       all_truth false p valid t = (t.0, t.1, body_truth false t.0 t.1 p valid t.2)
 
-      made_ex : Made (Ex x f) rs w (Ex (number w x) g) v
+      made_ex : Made (Ex x f) rs w (Ex (new_variable w x) g) v
       made_ex = record {
         step = quantified_step;
         new = quantified_new;
@@ -237,7 +233,7 @@ module _ (n : ℕ) (Bound : ℕ → Type 0) (below : (z : ℕ) → Bound z → z
         count = ap (λ i. 1 + i) made.count;
       }
 
-      made_all : Made (All x f) rs w (All (number w x) g) v
+      made_all : Made (All x f) rs w (All (new_variable w x) g) v
       made_all = record {
         step = quantified_step;
         new = quantified_new;
@@ -396,8 +392,8 @@ module _ (n : ℕ) (Bound : ℕ → Type 0) (below : (z : ℕ) → Bound z → z
     made (Not f) rs w fits = absurd fits.ready
     made (Implies f g) rs w fits = absurd fits.ready
     made (Iff f g) rs w fits = absurd fits.ready
-    made (Ex x f) rs w fits = made_ex x f rs w fits _ _ (made f (within w x rs) (after w x) (body_fits x f rs w fits))
-    made (All x f) rs w fits = made_all x f rs w (as_ex x f rs w fits) _ _ (made f (within w x rs) (after w x) (body_fits x f rs w (as_ex x f rs w fits)))
+    made (Ex x f) rs w fits = made_ex x f rs w fits _ _ (made f (within w x rs) (met_after w x) (body_fits x f rs w fits))
+    made (All x f) rs w fits = made_all x f rs w (as_ex x f rs w fits) _ _ (made f (within w x rs) (met_after w x) (body_fits x f rs w (as_ex x f rs w fits)))
 
     made_each : (fs : Formulas) (rs : List Renaming) (w : Walked) → Fits (And fs) rs w → MadeEach fs rs w (numbered_each fs rs w).0 (numbered_each fs rs w).1
     made_each no_more rs w fits = made_none rs w fits

@@ -1,46 +1,39 @@
--- Quantifiers and matrix of a formula; the blocks of quantifiers, where neighbours of one kind form a block; and what these stand for.
-use Rattle.std.specs.Prelude.{ℕ, Bool, true, false, cond, List, [], ◌∷◌, ◌++◌, map}
+-- Quantifiers and matrix of a formula, and the blocks of quantifiers, where neighbours of one kind form a block.
+use Rattle.std.specs.Prelude.{Bool, true, false, cond, List, [], ◌∷◌, ◌++◌, map}
 use Rattle.qe_poly.specs.declared.monomial.Var.{Var}
 use Rattle.qe_form.specs.Formula.{Formula, Formulas}
 use Rattle.qe_form.specs.Formula as formula
-use Rattle.qe_norm.specs.declared.prenex.Kind.{Kind}
-use Rattle.qe_norm.specs.declared.prenex.Kind.TheVariants.{Ex, All}
-use Rattle.qe_norm.specs.declared.prenex.Block.{Block}
+use Rattle.qe_form.specs.Blocks.{Kind, exists, for_all, Block}
+use Rattle.qe_norm.specs.declared.blocks.Kind as code
+use Rattle.qe_norm.specs.declared.blocks.Kind.TheVariants.{Ex, All}
 use Rattle.qe_norm.specs.declared.walk.Quantifier.{Quantifier}
 
--- the formula under a quantifier
-abbrev pub quantified : Kind → ℕ → Formula → Formula
-quantified Ex x f = formula.Ex x f
-quantified All x f = formula.All x f
+-- the quantifier that the code's stands for
+abbrev pub kind_of : code.Kind → Kind
+kind_of Ex = exists
+kind_of All = for_all
 
--- the formula under a quantifier for each of the variables, the first outermost
-abbrev pub quantified_each : Kind → List Var → Formula → Formula
-quantified_each kind [] f = f
-quantified_each kind (x ∷ xs) f = quantified kind x.0 (quantified_each kind xs f)
-
--- what blocks with a matrix stand for: the matrix under their quantifiers, the first block outermost
-abbrev pub meaning : List Block → Formula → Formula
-meaning [] f = f
-meaning (b ∷ bs) f = quantified_each b.kind b.vars (meaning bs f)
-
--- the variables of the blocks, in order
-abbrev pub variables : List Block → List ℕ
-variables [] = []
-variables (b ∷ bs) = map (λ x. x.0) b.vars ++ variables bs
+-- the block that the code's stands for
+abbrev pub block_of : code.Kind → List Var → Block
+block_of kind vars = record { kind = kind_of kind; vars = map (λ x. x.0) vars }
 
 abbrev pub is_same_kind : Kind → Kind → Bool
-is_same_kind Ex Ex = true
-is_same_kind All All = true
+is_same_kind exists exists = true
+is_same_kind for_all for_all = true
 is_same_kind _ _ = false
 
 -- a block of one quantifier
 abbrev pub alone : Quantifier → Block
-alone q = record { kind = q.kind; vars = q.var ∷ [] }
+alone q = block_of q.kind (q.var ∷ [])
+
+-- the block with one more variable
+abbrev pub with_variable : Block → Quantifier → Block
+with_variable b q = record { kind = b.kind; vars = b.vars ++ q.var.0 ∷ [] }
 
 -- the blocks with one more quantifier: it joins the last block, where that is of its kind, and else begins one
 abbrev pub with_quantifier : List Block → Quantifier → List Block
 with_quantifier [] q = alone q ∷ []
-with_quantifier (b ∷ []) q = cond (is_same_kind b.kind q.kind) (record { kind = b.kind; vars = b.vars ++ q.var ∷ [] } ∷ []) (b ∷ alone q ∷ [])
+with_quantifier (b ∷ []) q = cond (is_same_kind b.kind (kind_of q.kind)) (with_variable b q ∷ []) (b ∷ alone q ∷ [])
 with_quantifier (b ∷ c ∷ bs) q = b ∷ with_quantifier (c ∷ bs) q
 
 -- the blocks with more quantifiers, in order

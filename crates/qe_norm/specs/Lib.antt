@@ -1,3 +1,4 @@
+pub mod Polarity
 pub mod NormalForm
 pub mod Numbering
 pub mod Blocks

@@ -11,28 +11,34 @@ pub record Walked : Type 0 where
   pub met : List Bool
   pub names : List (List ℕ)
 
-abbrev pub walked : List Bool → List (List ℕ) → Walked
-walked met names = record { met = met; names = names }
-
 -- Whether a quantifier for the variable was met before. Numbers end below 2^32: where there are so many names it counts as not
 -- met, which no promise looks at.
 abbrev pub is_copy : Walked → ℕ → Bool
 is_copy w x = slice_index_or w.met x false && nat_lt (length w.names) 4294967295
 
 -- the variable that a quantifier for x gets here
-abbrev pub number : Walked → ℕ → ℕ
-number w x = cond (is_copy w x) (length w.names) x
+abbrev pub new_variable : Walked → ℕ → ℕ
+new_variable w x = cond (is_copy w x) (length w.names) x
 
--- what is met after a quantifier for x: a copy has the name of x again
-abbrev pub after : Walked → ℕ → Walked
-after w x =
-    cond (is_copy w x)
-    (record { met = w.met; names = w.names ++ unwrap_or (slice_get w.names x) [] ∷ [] })
-    (record { met = slice_set w.met x true; names = w.names })
+-- what is met after a quantifier for x that is a copy: the name of x comes again
+abbrev pub named_again : Walked → ℕ → Walked
+named_again w x = record { met = w.met; names = w.names ++ unwrap_or (slice_get w.names x) [] ∷ [] }
+
+-- what is met after the first quantifier for x
+abbrev pub met_first : Walked → ℕ → Walked
+met_first w x = record { met = slice_set w.met x true; names = w.names }
+
+-- what is met after a quantifier for x
+abbrev pub met_after : Walked → ℕ → Walked
+met_after w x = cond (is_copy w x) (named_again w x) (met_first w x)
+
+-- the renaming of x to a copy
+abbrev pub to_copy : Walked → ℕ → Renaming
+to_copy w x = record { from = record { 0 = x }; to = record { 0 = length w.names } }
 
 -- the renamings in force in the body of a quantifier for x, in the order in which they came into force
 abbrev pub within : Walked → ℕ → List Renaming → List Renaming
-within w x rs = cond (is_copy w x) (rs ++ record { from = record { 0 = x }; to = record { 0 = length w.names } } ∷ []) rs
+within w x rs = cond (is_copy w x) (rs ++ to_copy w x ∷ []) rs
 
 -- the polynomial with each of the renamings
 abbrev pub renamed_by : List Renaming → Polynomial → Polynomial
@@ -45,8 +51,8 @@ abbrev mutual
   numbered (Atom a) rs w = (Atom (record { poly = renamed_by rs a.poly; signs = a.signs }), w)
   numbered (And fs) rs w = (And (numbered_each fs rs w).0, (numbered_each fs rs w).1)
   numbered (Or fs) rs w = (Or (numbered_each fs rs w).0, (numbered_each fs rs w).1)
-  numbered (Ex x f) rs w = (Ex (number w x) (numbered f (within w x rs) (after w x)).0, (numbered f (within w x rs) (after w x)).1)
-  numbered (All x f) rs w = (All (number w x) (numbered f (within w x rs) (after w x)).0, (numbered f (within w x rs) (after w x)).1)
+  numbered (Ex x f) rs w = (Ex (new_variable w x) (numbered f (within w x rs) (met_after w x)).0, (numbered f (within w x rs) (met_after w x)).1)
+  numbered (All x f) rs w = (All (new_variable w x) (numbered f (within w x rs) (met_after w x)).0, (numbered f (within w x rs) (met_after w x)).1)
   numbered f rs w = (f, w)
 
   pub numbered_each : Formulas → List Renaming → Walked → Formulas × Walked

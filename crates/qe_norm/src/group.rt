@@ -1,17 +1,17 @@
 //! The blocks of quantifiers in order.
 
 ghost use Rattle.std.specs.Prelude.{◌≡◌, IfOk};
-ghost use Rattle.qe_norm.specs.Blocks.{is_same_kind, alone, with_quantifier, grouped};
+ghost use Rattle.qe_norm.specs.Blocks.{kind_of, is_same_kind, alone, with_quantifier, grouped};
 
 use crate::OutOfMemory;
-use crate::prenex::{Block, Kind};
+use crate::blocks::{Block, Kind};
 use crate::walk::Quantifier;
 use qe_form::Sequence;
 use std::alloc::Global;
 
 /// Whether both are the same quantifier.
 fn is_same_kind(left: Kind, right: Kind) -> bool
-    ensures { result ≡ is_same_kind left right }
+    ensures { result ≡ is_same_kind (kind_of left) (kind_of right) }
 {
     match (left, right) {
         (Kind::Ex, Kind::Ex) | (Kind::All, Kind::All) => true,

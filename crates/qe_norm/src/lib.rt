@@ -2,12 +2,13 @@
 //! Knows nothing of texts, nor of how quantifiers are eliminated.
 #![tactic(auto)]
 
+mod blocks;
 mod group;
-mod opening;
-mod prenex;
+mod normal_form;
+mod polarity;
 mod size;
 mod walk;
 
-pub use opening::normal;
-pub use prenex::{Block, Kind, NormStop, Prenex};
+pub use blocks::{Block, Kind, NormStop, Prenex};
+pub use normal_form::normal;
 pub use std::alloc::AllocError as OutOfMemory;

@@ -1,31 +1,10 @@
 //! How many atoms, constants and quantifiers a normal form has, without building it.
 
-ghost use Rattle.std.specs.Prelude.{◌≡◌, ◌≤◌, ◌+◌, ◌*◌, min};
+ghost use Rattle.std.specs.Prelude.{◌≡◌, min};
 ghost use Rattle.qe_form.specs.Tree.{tree, trees};
 ghost use Rattle.qe_norm.specs.Walk.{size_of, size_of_each};
 
-use qe_form::{Form, Forms};
-
-/// Where the count stops: one more than a prenex form may have.
-pub const MOST_COUNTED: u32 = 65_537;
-
-/// The sum of two counts, which stops at 65,537.
-fn count_sum(left: u32, right: u32) -> u32
-    requires left_stops { left ≤ 65537 }
-    requires right_stops { right ≤ 65537 }
-    ensures { result ≡ min 65537 (left + right) }
-{
-    MOST_COUNTED.min(left + right)
-}
-
-/// Twice the sum of two counts, which stops at 65,537.
-fn count_twice(left: u32, right: u32) -> u32
-    requires left_stops { left ≤ 65537 }
-    requires right_stops { right ≤ 65537 }
-    ensures { result ≡ min 65537 (2 * (left + right)) }
-{
-    MOST_COUNTED.min(2 * (left + right))
-}
+use qe_form::{Form, Forms, count_sum};
 
 /// How many atoms, constants and quantifiers the normal form of the formula has, as that of its negation; 65,537 where it has more.
 #[cycle(size)]
@@ -37,7 +16,10 @@ pub fn size(form: &Form) -> u32
         Form::And(parts) | Form::Or(parts) => size_all(parts),
         Form::Not(inner) => size(inner),
         Form::Implies(left, right) => count_sum(size(left), size(right)),
-        Form::Iff(left, right) => count_twice(size(left), size(right)),
+        Form::Iff(left, right) => {
+            let once = count_sum(size(left), size(right));
+            count_sum(once, once)
+        }
         Form::Ex(_, body) | Form::All(_, body) => count_sum(1, size(body)),
     }
 }

@@ -1,17 +1,19 @@
 //! The walk through a formula that collects its quantifiers and builds its matrix.
 
-ghost use Rattle.std.specs.Prelude.{◌≡◌, ◌∷◌, ◌++◌, ◌<◌, ◌^◌, ◌-◌, [], not, true, length, slice_get, slice_set, unwrap_or, IfOk, OnOk};
+ghost use Rattle.std.specs.Prelude.{◌≡◌, ◌∷◌, ◌++◌, ◌<◌, ◌^◌, ◌-◌, [], length, slice_get, unwrap_or, IfOk, OnOk};
 ghost use Rattle.std.specs.String.{string_bytes};
 ghost use Rattle.qe_form.specs.Formula as formula;
 ghost use Rattle.qe_form.specs.Tree.{tree, trees};
-ghost use Rattle.qe_norm.specs.NormalForm.{constant, connected, pair, signs_if};
-ghost use Rattle.qe_norm.specs.Numbering.{walked, is_copy, number, after, within, renamed_by, start};
-ghost use Rattle.qe_norm.specs.Walk.{kind_if, quantifier, met_after, met_after_each, quantifiers, quantifiers_each, opened, opened_each};
+ghost use Rattle.qe_norm.specs.Polarity.{signs_at};
+ghost use Rattle.qe_norm.specs.Numbering.{is_copy, named_again, met_first, to_copy, renamed_by};
+ghost use Rattle.qe_norm.specs.Walk.{begun, entered, left, opened, opened_each};
 
 use crate::OutOfMemory;
-use crate::prenex::Kind;
-use qe_form::{Atom, Form, Forms, Names, Poly, Sequence, Signs, Var};
+use crate::blocks::Kind;
+use crate::polarity::Polarity;
+use qe_form::{Atom, Form, Forms, Names, Poly, Sequence, Var};
 use std::alloc::Global;
+use std::marker::Model;
 
 /// A quantifier with its variable.
 #[derive(Clone, Copy)]
@@ -27,56 +29,22 @@ pub struct Renaming {
     pub to: Var,
 }
 
-/// What a walk has met: for each variable of the formula whether a quantifier for it was met, the names, the quantifiers
+/// The state of a walk: for each variable of the formula whether a quantifier for it was met, the names, the quantifiers
 /// in order, and the renamings in force.
 #[derive(Drop)]
 pub struct Walk {
-    pub met: Vec<bool>,
+    met: Vec<bool>,
     pub names: Names,
     pub prefix: Vec<Quantifier>,
-    pub renamings: Vec<Renaming>,
+    renamings: Vec<Renaming>,
 }
 
-/// `Ex`, or `All` where it is false.
-fn kind_if(is_ex: bool) -> Kind
-    ensures { result ≡ kind_if is_ex }
-{
-    if is_ex { Kind::Ex } else { Kind::All }
-}
+impl Model for Walk {
+    ghost use Rattle.qe_norm.specs.Walk.{State};
 
-/// The constant of this truth.
-fn constant(is_true: bool) -> Form
-    ensures { tree result ≡ constant is_true }
-{
-    if is_true { Form::True } else { Form::False }
-}
+    ghost Value = { State };
 
-/// The parts under And, or under Or where it is false.
-fn connected(is_and: bool, parts: Forms) -> Form
-    ensures { tree result ≡ connected is_and (trees parts) }
-{
-    if is_and {
-        Form::And(parts)
-    } else {
-        Form::Or(parts)
-    }
-}
-
-/// Two parts under And, or under Or where it is false.
-fn pair(alloc: Global, is_and: bool, left: Form, right: Form) -> Result<Form, OutOfMemory>
-    ensures { IfOk result (λ f. tree f ≡ pair is_and (tree left) (tree right)) }
-{
-    let mut parts = Sequence::new(alloc);
-    parts.push(left)?;
-    parts.push(right)?;
-    Ok(connected(is_and, parts))
-}
-
-/// The signs, or their complement where it is false.
-fn signs_if(plain: bool, signs: Signs) -> Signs
-    ensures { result ≡ signs_if plain signs }
-{
-    if plain { signs } else { signs.complement() }
+    ghost view = { λ w. record { walked = record { met = w.met.items; names = w.names }; prefix = w.prefix.items; renamings = w.renamings.items } };
 }
 
 /// A copy of the polynomial with each of the renamings.
@@ -92,18 +60,21 @@ fn renamed_by(alloc: Global, renamings: &[Renaming], poly: &Poly) -> Result<Poly
     Ok(made)
 }
 
-/// The atom, or its negation where it is false, with each of the renamings.
+/// What the atom becomes, with each of the renamings.
 fn open_atom(
     alloc: Global,
     renamings: &[Renaming],
     atom: &Atom,
-    plain: bool,
+    polarity: Polarity,
 ) -> Result<Form, OutOfMemory>
-    ensures { IfOk result (λ f. tree f ≡ formula.Atom (record { poly = renamed_by renamings.now atom.now.poly; signs = signs_if plain atom.now.signs })) }
+    ensures { IfOk result (λ f. tree f ≡ formula.Atom (record {
+      poly = renamed_by renamings.now atom.now.poly;
+      signs = signs_at polarity atom.now.signs;
+    })) }
 {
     Ok(Form::Atom(Atom {
         poly: renamed_by(alloc, renamings, &atom.poly)?,
-        signs: signs_if(plain, atom.signs),
+        signs: polarity.signs(atom.signs),
     }))
 }
 
@@ -120,9 +91,7 @@ fn name_again(alloc: Global, names: &Names, var: Var) -> Result<String, OutOfMem
 impl Walk {
     /// The start of a walk.
     pub fn new(alloc: Global, names: Names) -> Result<Walk, OutOfMemory>
-        ensures walked { IfOk result (λ w. walked w.met.items w.names ≡ start names) }
-        ensures prefix { IfOk result (λ w. w.prefix.items ≡ []) }
-        ensures renamings { IfOk result (λ w. w.renamings.items ≡ []) }
+        ensures { IfOk result (λ w. w ≡ begun names) }
     {
         let met = vec![in alloc; false; names.len() as usize]?;
         Ok(Walk {
@@ -135,7 +104,7 @@ impl Walk {
 
     /// Whether a quantifier for this variable is a copy.
     fn is_copy(&self, var: Var) -> bool
-        ensures { result ≡ is_copy (walked self.now.met.items self.now.names) var.0 }
+        ensures { result ≡ is_copy self.now.walked var.0 }
     {
         let place = var.0 as usize;
         place < self.met.len() && self.met[place] && self.names.len() < u32::MAX
@@ -143,10 +112,7 @@ impl Walk {
 
     /// A quantifier for this variable is met for the first time.
     fn meet(&mut self, var: Var)
-        ensures met { self.new.met.items ≡ slice_set self.old.met.items var.0 true }
-        ensures names { self.new.names ≡ self.old.names }
-        ensures prefix { self.new.prefix.items ≡ self.old.prefix.items }
-        ensures renamings { self.new.renamings.items ≡ self.old.renamings.items }
+        ensures { self.new ≡ record self.old { walked = met_first self.old.walked var.0 } }
     {
         let place = var.0 as usize;
         if place < self.met.len() {
@@ -156,12 +122,12 @@ impl Walk {
 
     /// A quantifier for this variable is met again: the next variable, with the name of this one.
     fn meet_again(&mut self, alloc: Global, var: Var) -> Result<Var, OutOfMemory>
-        requires { length self.old.names < 2 ^ 32 - 1 }
-        ensures number { IfOk result (λ x. x.0 ≡ length self.old.names) }
-        ensures met { OnOk result (self.new.met.items ≡ self.old.met.items) }
-        ensures names { OnOk result (self.new.names ≡ self.old.names ++ unwrap_or (slice_get self.old.names var.0) [] ∷ []) }
-        ensures prefix { OnOk result (self.new.prefix.items ≡ self.old.prefix.items) }
-        ensures renamings { OnOk result (self.new.renamings.items ≡ self.old.renamings.items ++ record { from = var; to = record { 0 = length self.old.names } } ∷ []) }
+        requires { length self.old.walked.names < 2 ^ 32 - 1 }
+        ensures number { IfOk result (λ x. x.0 ≡ length self.old.walked.names) }
+        ensures state { OnOk result (self.new ≡ record self.old {
+          walked = named_again self.old.walked var.0;
+          renamings = self.old.renamings ++ to_copy self.old.walked var.0 ∷ [];
+        }) }
     {
         let to = Var(self.names.len());
         let name = name_again(alloc, &self.names, var)?;
@@ -171,75 +137,90 @@ impl Walk {
     }
 
     /// A quantifier is met.
-    fn enter(&mut self, alloc: Global, kind: Kind, var: Var) -> Result<(), OutOfMemory>
-        ensures walked { let w = walked self.old.met.items self.old.names in OnOk result (walked self.new.met.items self.new.names ≡ after w var.0) }
-        ensures prefix { let w = walked self.old.met.items self.old.names in OnOk result (self.new.prefix.items ≡ self.old.prefix.items ++ quantifier kind w var.0 ∷ []) }
-        ensures renamings { let w = walked self.old.met.items self.old.names in OnOk result (self.new.renamings.items ≡ within w var.0 self.old.renamings.items) }
+    fn enter(&mut self, alloc: Global, quantifier: Quantifier) -> Result<(), OutOfMemory>
+        ensures { OnOk result (self.new ≡ entered quantifier.kind quantifier.var.0 self.old) }
     {
-        let number = if self.is_copy(var) {
-            self.meet_again(alloc, var)?
+        let var = if self.is_copy(quantifier.var) {
+            self.meet_again(alloc, quantifier.var)?
         } else {
-            self.meet(var);
-            var
+            self.meet(quantifier.var);
+            quantifier.var
         };
-        self.prefix.push(Quantifier { kind, var: number })?;
+        self.prefix.push(Quantifier {
+            kind: quantifier.kind,
+            var,
+        })?;
         Ok(())
     }
 }
 
-/// Walks through the formula, or through its negation where it is false, and builds the matrix.
+/// Walks through the formula, or through its negation, and builds the matrix.
 #[cycle(open)]
-pub fn open(alloc: Global, walk: &mut Walk, form: &Form, plain: bool) -> Result<Form, OutOfMemory>
-    ensures walked { let w = walked walk.old.met.items walk.old.names in OnOk result (walked walk.new.met.items walk.new.names ≡ met_after (tree form.now) w) }
-    ensures prefix { let w = walked walk.old.met.items walk.old.names in OnOk result (walk.new.prefix.items ≡ walk.old.prefix.items ++ quantifiers plain (tree form.now) w) }
-    ensures renamings { OnOk result (walk.new.renamings.items ≡ walk.old.renamings.items) }
-    ensures matrix { let w = walked walk.old.met.items walk.old.names in IfOk result (λ f. tree f ≡ opened plain (tree form.now) walk.old.renamings.items w) }
+pub fn open(
+    alloc: Global,
+    walk: &mut Walk,
+    form: &Form,
+    polarity: Polarity,
+) -> Result<Form, OutOfMemory>
+    ensures state { OnOk result (walk.new ≡ (opened polarity (tree form.now) walk.old).1) }
+    ensures matrix { IfOk result (λ f. tree f ≡ (opened polarity (tree form.now) walk.old).0) }
 {
     match form {
-        Form::True => Ok(constant(plain)),
-        Form::False => Ok(constant(!plain)),
-        Form::Atom(atom) => open_atom(alloc, &walk.renamings, atom, plain),
-        Form::And(parts) => Ok(connected(plain, open_all(alloc, walk, parts, plain)?)),
-        Form::Or(parts) => Ok(connected(!plain, open_all(alloc, walk, parts, plain)?)),
-        Form::Not(inner) => open(alloc, walk, inner, !plain),
+        Form::True => Ok(polarity.truth()),
+        Form::False => Ok(polarity.opposite().truth()),
+        Form::Atom(atom) => open_atom(alloc, &walk.renamings, atom, polarity),
+        Form::And(parts) => {
+            let matrices = open_all(alloc, walk, parts, polarity)?;
+            Ok(polarity.conjunction(matrices))
+        }
+        Form::Or(parts) => {
+            let matrices = open_all(alloc, walk, parts, polarity)?;
+            Ok(polarity.opposite().conjunction(matrices))
+        }
+        Form::Not(inner) => open(alloc, walk, inner, polarity.opposite()),
         Form::Implies(left, right) => {
-            let first = open(alloc, walk, left, !plain)?;
-            let second = open(alloc, walk, right, plain)?;
-            pair(alloc, !plain, first, second)
+            let first = open(alloc, walk, left, polarity.opposite())?;
+            let second = open(alloc, walk, right, polarity)?;
+            polarity.opposite().pair(alloc, first, second)
         }
         Form::Iff(left, right) => {
             // both or neither; in the negation one without the other
-            let first = open(alloc, walk, left, true)?;
-            let second = open(alloc, walk, right, plain)?;
-            let one = pair(alloc, true, first, second)?;
-            let third = open(alloc, walk, left, false)?;
-            let fourth = open(alloc, walk, right, !plain)?;
-            let other = pair(alloc, true, third, fourth)?;
-            pair(alloc, false, one, other)
+            let first = open(alloc, walk, left, Polarity::Positive)?;
+            let second = open(alloc, walk, right, polarity)?;
+            let one = Polarity::Positive.pair(alloc, first, second)?;
+            let third = open(alloc, walk, left, Polarity::Negative)?;
+            let fourth = open(alloc, walk, right, polarity.opposite())?;
+            let other = Polarity::Positive.pair(alloc, third, fourth)?;
+            Polarity::Negative.pair(alloc, one, other)
         }
-        Form::Ex(var, body) => open_quantified(alloc, walk, kind_if(plain), *var, body, plain),
-        Form::All(var, body) => open_quantified(alloc, walk, kind_if(!plain), *var, body, plain),
+        Form::Ex(var, body) => {
+            let kind = polarity.kind();
+            open_body(alloc, walk, Quantifier { kind, var: *var }, body, polarity)
+        }
+        Form::All(var, body) => {
+            let kind = polarity.opposite().kind();
+            open_body(alloc, walk, Quantifier { kind, var: *var }, body, polarity)
+        }
     }
 }
 
-/// The body of a quantifier.
+/// The matrix of the body of a quantifier.
 #[cycle(open)]
-fn open_quantified(
+fn open_body(
     alloc: Global,
     walk: &mut Walk,
-    kind: Kind,
-    var: Var,
+    quantifier: Quantifier,
     body: &Form,
-    plain: bool,
+    polarity: Polarity,
 ) -> Result<Form, OutOfMemory>
-    ensures walked { let w = walked walk.old.met.items walk.old.names in OnOk result (walked walk.new.met.items walk.new.names ≡ met_after (tree body.now) (after w var.0)) }
-    ensures prefix { let w = walked walk.old.met.items walk.old.names in OnOk result (walk.new.prefix.items ≡ walk.old.prefix.items ++ quantifier kind w var.0 ∷ quantifiers plain (tree body.now) (after w var.0)) }
-    ensures renamings { OnOk result (walk.new.renamings.items ≡ walk.old.renamings.items) }
-    ensures matrix { let w = walked walk.old.met.items walk.old.names in IfOk result (λ f. tree f ≡ opened plain (tree body.now) (within w var.0 walk.old.renamings.items) (after w var.0)) }
+    ensures state { let s = entered quantifier.kind quantifier.var.0 walk.old in
+        OnOk result (walk.new ≡ left (length walk.old.renamings) (opened polarity (tree body.now) s).1) }
+    ensures matrix { let s = entered quantifier.kind quantifier.var.0 walk.old in
+        IfOk result (λ f. tree f ≡ (opened polarity (tree body.now) s).0) }
 {
     let depth = walk.renamings.len();
-    walk.enter(alloc, kind, var)?;
-    let matrix = open(alloc, walk, body, plain)?;
+    walk.enter(alloc, quantifier)?;
+    let matrix = open(alloc, walk, body, polarity)?;
     walk.renamings.truncate(depth);
     Ok(matrix)
 }
@@ -250,16 +231,14 @@ fn open_all(
     alloc: Global,
     walk: &mut Walk,
     forms: &Forms,
-    plain: bool,
+    polarity: Polarity,
 ) -> Result<Forms, OutOfMemory>
-    ensures walked { let w = walked walk.old.met.items walk.old.names in OnOk result (walked walk.new.met.items walk.new.names ≡ met_after_each (trees forms.now) w) }
-    ensures prefix { let w = walked walk.old.met.items walk.old.names in OnOk result (walk.new.prefix.items ≡ walk.old.prefix.items ++ quantifiers_each plain (trees forms.now) w) }
-    ensures renamings { OnOk result (walk.new.renamings.items ≡ walk.old.renamings.items) }
-    ensures matrix { let w = walked walk.old.met.items walk.old.names in IfOk result (λ fs. trees fs ≡ opened_each plain (trees forms.now) walk.old.renamings.items w) }
+    ensures state { OnOk result (walk.new ≡ (opened_each polarity (trees forms.now) walk.old).1) }
+    ensures matrix { IfOk result (λ fs. trees fs ≡ (opened_each polarity (trees forms.now) walk.old).0) }
 {
     let mut matrices = Sequence::new(alloc);
     for form in forms.items() {
-        matrices.push(open(alloc, walk, form, plain)?)?;
+        matrices.push(open(alloc, walk, form, polarity)?)?;
     }
     Ok(matrices)
 }

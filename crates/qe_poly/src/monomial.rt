@@ -150,7 +150,8 @@ fn powers_product(
     requires left_low { is_high left.now ≡ false }
     requires right_low { is_high right.now ≡ false }
     ensures { let product = times left.now right.now in
-        IfOk result (λ o. MatchOption o (is_high product ≡ true) (λ v. (v.items ≡ product) × (is_high product ≡ false))) }
+        IfOk result (λ o. MatchOption o (is_high product ≡ true)
+        (λ v. (v.items ≡ product) × (is_high product ≡ false))) }
 {
     let mut powers = Vec::new(alloc);
     let mut i = 0;
@@ -283,7 +284,8 @@ impl Monomial {
     /// The product, or `None` where an exponent would be over 65,535.
     pub fn times(&self, alloc: Global, other: &Monomial) -> Result<Option<Monomial>, AllocError>
         ensures { let product = times self.now other.now in
-            IfOk result (λ o. MatchOption o (is_high product ≡ true) (λ m. (m ≡ product) × (is_high product ≡ false))) }
+            IfOk result (λ o. MatchOption o (is_high product ≡ true)
+            (λ m. (m ≡ product) × (is_high product ≡ false))) }
     {
         match powers_product(alloc, &self.powers, &other.powers)? {
             Some(powers) => Ok(Some(Monomial { powers })),

@@ -10,7 +10,8 @@ use std::alloc::{AllocError, Global};
 
 /// The terms with this exponent of the variable, without the variable.
 pub fn part(alloc: Global, terms: &[Term], var: Var, exponent: u32) -> Result<Vec<Term>, AllocError>
-    ensures { IfOk result (λ v. map shown v.items ≡ coefficient_in var.0 exponent (map shown terms.now)) }
+    ensures { IfOk result (λ v. map shown v.items
+        ≡ coefficient_in var.0 exponent (map shown terms.now)) }
 {
     let mut kept = Vec::new(alloc);
     for term in terms {

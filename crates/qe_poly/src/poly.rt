@@ -95,7 +95,8 @@ impl Poly {
     /// The sum. The limit is `Monomials` where the two have more than 4,096 different monomials, and else `Coefficient`
     /// at the greatest monomial whose sum is out of range, with the two coefficients there.
     pub fn add(&self, alloc: Global, other: &Poly) -> Result<Poly, PolyStop>
-        ensures { IsAnswer (sum_limit Op.Add self.now other.now) (spec.sum self.now other.now) result }
+        ensures { IsAnswer (sum_limit Op.Add self.now other.now)
+            (spec.sum self.now other.now) result }
     {
         let terms = combine(alloc, &self.terms, &other.terms, Op::Add)?;
         Ok(Poly { terms })
@@ -103,7 +104,8 @@ impl Poly {
 
     /// The difference; its limits are those of `add`, at the differences.
     pub fn sub(&self, alloc: Global, other: &Poly) -> Result<Poly, PolyStop>
-        ensures { IsAnswer (sum_limit Op.Sub self.now other.now) (spec.difference self.now other.now) result }
+        ensures { IsAnswer (sum_limit Op.Sub self.now other.now)
+            (spec.difference self.now other.now) result }
     {
         let terms = combine(alloc, &self.terms, &other.terms, Op::Sub)?;
         Ok(Poly { terms })
@@ -114,7 +116,8 @@ impl Poly {
     /// first pair whose coefficients' product is out of range, with the two coefficients, or at the greatest monomial
     /// where the magnitudes that meet add to more than 2^127-1, with the sum before and the magnitude that was too much.
     pub fn mul(&self, alloc: Global, other: &Poly) -> Result<Poly, PolyStop>
-        ensures { IsAnswer (product_limit self.now other.now) (spec.product self.now other.now) result }
+        ensures { IsAnswer (product_limit self.now other.now)
+            (spec.product self.now other.now) result }
     {
         let terms = multiply(alloc, &self.terms, &other.terms)?;
         Ok(Poly { terms })
@@ -132,7 +135,8 @@ impl Poly {
     /// The polynomial divided by the greatest common divisor of its coefficients, with a positive leading coefficient, and
     /// whether the leading coefficient was negative. The polynomial 0 stays as it is.
     pub fn primitive(&self, alloc: Global) -> Result<(Poly, bool), AllocError>
-        ensures exact { IfOk result (λ r. (r.0 ≡ primitive self.now) × (r.1 ≡ leads_negative self.now)) }
+        ensures exact { IfOk result (λ r. (r.0 ≡ primitive self.now)
+            × (r.1 ≡ leads_negative self.now)) }
         ensures multiple { IfOk result (λ r. IsMultiple self.now r.0 r.1) }
     {
         if self.terms.is_empty() {
@@ -204,7 +208,8 @@ impl Poly {
     /// `canonical` is there for the values: no monomial has a variable twice, so the coefficients give the polynomial's values.
     pub fn coeffs_in(&self, alloc: Global, var: Var) -> Result<[Poly; 3], AllocError>
         requires { degree_in var.0 self.now ≤ 2 }
-        ensures parts { IfOk result (λ c. c ≡ coefficient_in var.0 2 self.now ∷ coefficient_in var.0 1 self.now
+        ensures parts { IfOk result (λ c. c ≡ coefficient_in var.0 2 self.now
+            ∷ coefficient_in var.0 1 self.now
             ∷ coefficient_in var.0 0 self.now ∷ []) }
         ensures canonical { spec.IsPolynomial self.now }
     {

@@ -28,7 +28,8 @@ fn has_high_row(term: &Term, right: &[Term]) -> bool
 /// The limit of products that have too many monomials: an exponent over 65,535 comes first.
 #[tactic(auto, using(crate::proofs::Products::has_high_more))]
 fn crowded(left: &[Term], right: &[Term]) -> PolyLimit
-    ensures { result ≡ cond (has_high (products (map shown left.now) (map shown right.now))) PolyLimit.Exponent PolyLimit.Monomials }
+    ensures { result ≡ cond (has_high (products (map shown left.now)
+        (map shown right.now))) PolyLimit.Exponent PolyLimit.Monomials }
 {
     for term in left {
         if has_high_row(term, right) {
@@ -53,7 +54,8 @@ fn enter_row(
         let limit = exponent_limit (product_row t q) in
         MatchResult result
         (λ wide. (limit ≡ None) × (limit_of wide ≡ or_else (limit_of first) (row_wide t q))
-        × (map shown_group groups.new.items ≡ entered (fitted_row t q) (map shown_group groups.old.items)))
+        × (map shown_group groups.new.items ≡ entered (fitted_row t q)
+        (map shown_group groups.old.items)))
         (IsStop limit) }
 {
     let mut wide = first;
@@ -81,7 +83,8 @@ fn collect(
     ensures { let p = map shown left.now in
         let q = map shown right.now in
         MatchResult result
-        (λ r. (monomials_limit p q ≡ None) × (limit_of r.1 ≡ pairs_wide p q) × (map shown_group (r.0).items ≡ entered (fitted p q) []))
+        (λ r. (monomials_limit p q ≡ None) × (limit_of r.1 ≡ pairs_wide p q)
+        × (map shown_group (r.0).items ≡ entered (fitted p q) []))
         (IsStop (monomials_limit p q)) }
 {
     let mut groups = Vec::with_capacity(alloc, left.len().max(right.len()))?;
@@ -123,7 +126,8 @@ pub fn multiply(alloc: Global, left: &[Term], right: &[Term]) -> Result<Vec<Term
     ensures { let p = map shown left.now in
         let q = map shown right.now in
         MatchResult result
-        (λ v. (collected_limit p q ≡ None) × (map shown v.items ≡ tallied_terms (entered (fitted p q) [])))
+        (λ v. (collected_limit p q ≡ None) × (map shown v.items
+        ≡ tallied_terms (entered (fitted p q) [])))
         (IsStop (collected_limit p q)) }
 {
     let (groups, wide) = collect(alloc, left, right)?;

@@ -17,7 +17,8 @@ pub fn renamed_terms(
     to: Var,
 ) -> Result<Vec<Term>, AllocError>
     requires { occurs_in_some to.0 (map shown terms.now) ≡ false }
-    ensures { IfOk result (λ v. map shown v.items ≡ map (λ t. (renamed_monomial from to t.0, t.1)) (map shown terms.now)) }
+    ensures { IfOk result (λ v. map shown v.items
+        ≡ map (λ t. (renamed_monomial from to t.0, t.1)) (map shown terms.now)) }
 {
     let mut made = Vec::with_capacity(alloc, terms.len())?;
     for term in terms {

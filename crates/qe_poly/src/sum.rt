@@ -65,7 +65,8 @@ fn push_right(rows: &mut Vec<Row>, alloc: Global, terms: &[Term]) -> Result<(), 
 
 /// The monomials of both in order, each with its two coefficients.
 fn merge(alloc: Global, left: &[Term], right: &[Term]) -> Result<Vec<Row>, AllocError>
-    ensures { IfOk result (λ v. map shown_row v.items ≡ merged (map shown left.now) (map shown right.now)) }
+    ensures { IfOk result (λ v. map shown_row v.items
+        ≡ merged (map shown left.now) (map shown right.now)) }
 {
     let zero = Coef::zero();
     let mut rows = Vec::with_capacity(alloc, left.len().max(right.len()))?;

@@ -82,7 +82,8 @@ pub fn enter(groups: &mut Vec<Group>, monomial: Monomial, coef: Coef) -> Result<
     requires { IsInOrder groups.now.items }
     ensures order { IfOk result (λ _. IsInOrder groups.new.items) }
     ensures entered { MatchResult result
-        (λ _. map shown_group groups.new.items ≡ enter_tally (monomial, coef) (map shown_group groups.old.items))
+        (λ _. map shown_group groups.new.items
+        ≡ enter_tally (monomial, coef) (map shown_group groups.old.items))
         (λ stop. stop ≡ Halt.OutOfMemory) }
 {
     match place(groups, &monomial) {

@@ -15,8 +15,9 @@ use Rattle.qe_print.specs.Polynomial.{name_of, power_text, factors_text, term_te
 use Rattle.qe_print.specs.Formula.{relation_text, atom_text, bracketed, part, is_one, list_text, formula_text, parts_text}
 use Rattle.qe_read.specs.Names.{Letters}
 use Rattle.qe_norm.specs.declared.walk.Renaming.{Renaming}
+use Rattle.qe_norm.specs.declared.polarity.Polarity.TheVariants.{Positive}
 use Rattle.qe_norm.specs.NormalForm.{normal_form}
-use Rattle.qe_norm.specs.Numbering.{Walked, is_copy, after, within, numbered, numbered_each, start}
+use Rattle.qe_norm.specs.Numbering.{Walked, is_copy, named_again, met_first, met_after, within, numbered, numbered_each, start}
 use Rattle.qe_program.specs.Outcome.{all_names}
 
 -- ---- texts by two lists of names
@@ -103,10 +104,8 @@ goes_on_from : (names between all : List Letters) → GoesOn names between → G
 goes_on_from names between all first next =
     (first.0 ++ next.0, next.1 ∙ (ap (λ l. l ++ next.0) first.1 ∙ append_assoc names first.0 next.0))
 
-names_after : (w : Walked) (x : ℕ) → GoesOn w.names (after w x).names
-names_after w x = elim (is_copy w x) as (λ b. GoesOn w.names (cond {A = Walked} b
-    (record { met = w.met; names = w.names ++ unwrap_or (slice_get w.names x) [] ∷ [] })
-    (record { met = slice_set w.met x true; names = w.names })).names) [
+names_after : (w : Walked) (x : ℕ) → GoesOn w.names (met_after w x).names
+names_after w x = elim (is_copy w x) as (λ b. GoesOn w.names (cond {A = Walked} b (named_again w x) (met_first w x)).names) [
       | true ↦ (unwrap_or (slice_get w.names x) [] ∷ [], refl)
       | false ↦ ([], sym (append-nil w.names))
     ]
@@ -121,8 +120,8 @@ mutual
   names_numbered (Not f) rs w = ([], sym (append-nil w.names))
   names_numbered (Implies f g) rs w = ([], sym (append-nil w.names))
   names_numbered (Iff f g) rs w = ([], sym (append-nil w.names))
-  names_numbered (Ex x f) rs w = goes_on_from w.names (after w x).names _ (names_after w x) (names_numbered f (within w x rs) (after w x))
-  names_numbered (All x f) rs w = goes_on_from w.names (after w x).names _ (names_after w x) (names_numbered f (within w x rs) (after w x))
+  names_numbered (Ex x f) rs w = goes_on_from w.names (met_after w x).names _ (names_after w x) (names_numbered f (within w x rs) (met_after w x))
+  names_numbered (All x f) rs w = goes_on_from w.names (met_after w x).names _ (names_after w x) (names_numbered f (within w x rs) (met_after w x))
 
   names_numbered_each : (fs : Formulas) (rs : List Renaming) (w : Walked) → GoesOn w.names (numbered_each fs rs w).1.names
   names_numbered_each no_more rs w = ([], sym (append-nil w.names))
@@ -132,5 +131,5 @@ mutual
 -- A formula without quantifiers whose free variables have names is printed by these, also where names follow.
 pub printed : (f : Formula) (names : List Letters) (g : Formula) → HasNoQuantifier g → ((x : ℕ) → IsFree x g → x < length names) → formula_text (all_names f names) g ≡ formula_text names g
 printed f names g none below =
-    let all = names_numbered (normal_form true f) [] (start names) in
+    let all = names_numbered (normal_form Positive f) [] (start names) in
     same_formula (all_names f names) names g none (λ x free. ap (λ l. name_of l x) all.1 ∙ name_before names all.0 x (below x free))

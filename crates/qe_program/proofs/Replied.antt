@@ -15,10 +15,9 @@ use Rattle.qe_read.specs.declared.fault.ReadFault.{ReadFault}
 use Rattle.qe_read.specs.declared.fault.ReadFault.TheVariants as read
 use Rattle.qe_read.specs.Names.{Letters}
 use Rattle.qe_read.specs.Input.{IsInput, IsFirstFaultOf, IsReadAs}
-use Rattle.qe_norm.specs.declared.prenex.Prenex.{Prenex}
+use Rattle.qe_norm.specs.declared.blocks.Prenex.{Prenex}
 use Rattle.qe_norm.specs.Prenex.{IsPrenexOf, stands_for}
 use Rattle.qe_tree.specs.Block.{given, stopped}
-use Rattle.qe_elim.specs.Answer.{blocks_of}
 use Rattle.qe_program.specs.declared.reply.Reply.{Reply}
 use Rattle.qe_program.specs.Output.{line}
 use Rattle.qe_program.specs.Outcome.{blocks, matrix, all_names}
@@ -79,9 +78,9 @@ pub prenex_replied : (limit : ℕ) (f : Formula) (names : List Letters) (p : Pre
 prenex_replied limit f names p (Err e) below small is keeps alike same h = tt
 prenex_replied limit f names p (Ok reply) below small is keeps alike same h =
     by_blocks limit f names below (stands_for p) keeps alike same small reply
-    (subst (λ bs. RepliesToBlocks limit bs (matrix f names) (all_names f names) (stands_for p) reply) (ap blocks_of is.blocks)
-    (subst (λ m. RepliesToBlocks limit (blocks_of p.blocks.items) m (all_names f names) (stands_for p) reply) is.matrix
-    (subst (λ all. RepliesToBlocks limit (blocks_of p.blocks.items) (tree p.matrix) all (stands_for p) reply) is.names h)))
+    (subst (λ bs. RepliesToBlocks limit bs (matrix f names) (all_names f names) (stands_for p) reply) is.blocks
+    (subst (λ m. RepliesToBlocks limit p.blocks.items m (all_names f names) (stands_for p) reply) is.matrix
+    (subst (λ all. RepliesToBlocks limit p.blocks.items (tree p.matrix) all (stands_for p) reply) is.names h)))
 
 -- ---- the bytes
 

@@ -17,7 +17,7 @@ pub record Asks (words : List (List ℕ)) (limit : ℕ) : Type 0 where
 abbrev pub AsksNothing : List (List ℕ) → Type 0
 AsksNothing words = (limit : ℕ) → Asks words limit → ⊥
 
--- the limit that the words ask for and no other; `None` where they ask for nothing; want of memory may come in place of either
+-- the limit that the words ask for and no other; `None` where they ask for nothing; out of memory may come in place of either
 abbrev pub IsAsked : List (List ℕ) → Result (Option ℕ) AllocError → Type 0
 IsAsked words (Ok (Some limit)) = Asks words limit × ((other : ℕ) → Asks words other → other ≡ limit) × (1 ≤ limit)
 IsAsked words (Ok None) = AsksNothing words

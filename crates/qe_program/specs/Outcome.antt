@@ -4,15 +4,15 @@ use Rattle.qe_form.specs.Formula.{Formula}
 use Rattle.qe_norm.specs.Blocks.{prefix, grouped}
 use Rattle.qe_norm.specs.Blocks as prenex
 use Rattle.qe_norm.specs.Prenex.{walk}
-use Rattle.qe_tree.specs.Block.{Block, Eliminated, eliminated, EachBlock, AtBlock, Fits, IsWithin, IsBeyond}
+use Rattle.qe_form.specs.Blocks.{Block}
+use Rattle.qe_tree.specs.Block.{Eliminated, eliminated, EachBlock, AtBlock, Fits, IsWithin, IsBeyond}
 use Rattle.qe_node.specs.declared.stop.NodeStop.{NodeStop}
 use Rattle.qe_node.specs.Successors.{expansion}
-use Rattle.qe_elim.specs.Answer.{blocks_of}
 use Rattle.qe_read.specs.Names.{Letters}
 
 -- the blocks of the prenex form, its matrix, and the names of its variables
 abbrev pub blocks : Formula → List Letters → List Block
-blocks f names = blocks_of (grouped (prefix (walk f names).0))
+blocks f names = grouped (prefix (walk f names).0)
 
 abbrev pub matrix : Formula → List Letters → Formula
 matrix f names = prenex.matrix (walk f names).0

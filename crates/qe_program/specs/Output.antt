@@ -41,7 +41,7 @@ placed_text kind place = codes "bad input: " ++ kind ++ codes " at " ++ decimal 
 abbrev pub wide_text : Wide → List ℕ
 wide_text wide = codes ": " ++ signed_decimal wide.left ++ codes " " ++ operation_text wide.op ++ codes " " ++ signed_decimal wide.right
 
--- the first fault of an input; want of memory is none, and has no text
+-- the first fault of an input; out of memory is none, and has no text
 abbrev pub fault_text : ReadFault → List ℕ
 fault_text (read.Syntax p) = placed_text (codes "syntax") p
 fault_text (read.Wide p) = placed_text (codes "wide literal") p

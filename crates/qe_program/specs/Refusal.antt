@@ -7,7 +7,7 @@ use Rattle.qe_read.specs.declared.fault.ReadFault.{ReadFault}
 use Rattle.qe_read.specs.declared.fault.ReadFault.TheVariants as read
 use Rattle.qe_read.specs.Names.{Letters}
 use Rattle.qe_read.specs.Input.{IsFirstFaultOf}
-use Rattle.qe_norm.specs.Prenex.{size}
+use Rattle.qe_norm.specs.Prenex.{prenex_size}
 use Rattle.qe_tree.specs.Tree.{Step}
 use Rattle.qe_tree.specs.Block.{given, stopped}
 use Rattle.qe_node.specs.declared.stop.NodeStop.{NodeStop}
@@ -20,10 +20,10 @@ use Rattle.qe_program.specs.Outcome.{outcome, all_names, EachIsWithin, BlockIsWi
 
 -- the prenex form has at most 65,536 atoms, constants and quantifiers, or more
 abbrev pub IsSmall : Formula → Type 0
-IsSmall f = size f ≤ 65536
+IsSmall f = prenex_size f ≤ 65536
 
 abbrev pub IsLarge : Formula → Type 0
-IsLarge f = 65536 < size f
+IsLarge f = 65536 < prenex_size f
 
 -- the prenex form is small, elimination gives a formula, and no block has more nodes than the limit
 pub record HasAnswer (limit : ℕ) (f : Formula) (names : List Letters) : Type 0 where
@@ -59,7 +59,7 @@ pub data Refusal : Type 0 where
   node : List Letters → ℕ → List Step → NodeStop → Refusal
   too_many_nodes : ℕ → ℕ → Refusal
 
--- want of memory is no reason
+-- out of memory is no reason
 abbrev pub IsReason : Refusal → Type 0
 IsReason (fault f) = f ≢ read.OutOfMemory
 IsReason _ = Unit {0}

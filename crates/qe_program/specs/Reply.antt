@@ -10,14 +10,14 @@ use Rattle.qe_read.specs.declared.fault.ReadFault.{ReadFault}
 use Rattle.qe_read.specs.declared.fault.ReadFault.TheVariants as read
 use Rattle.qe_read.specs.Names.{Letters}
 use Rattle.qe_print.specs.Formula.{formula_text}
-use Rattle.qe_norm.specs.declared.prenex.Prenex.{Prenex}
+use Rattle.qe_norm.specs.declared.blocks.Prenex.{Prenex}
 use Rattle.qe_norm.specs.Prenex.{stands_for}
 use Rattle.qe_tree.specs.Tree.{Step}
-use Rattle.qe_tree.specs.Block.{Block, given, stopped, eliminated, EachBlock, AtBlock, Fits}
+use Rattle.qe_form.specs.Blocks.{Block}
+use Rattle.qe_tree.specs.Block.{given, stopped, eliminated, EachBlock, AtBlock, Fits}
 use Rattle.qe_tree.specs.Block as tree_of
 use Rattle.qe_node.specs.declared.stop.NodeStop.{NodeStop}
 use Rattle.qe_node.specs.Successors.{expansion}
-use Rattle.qe_elim.specs.Answer.{blocks_of}
 use Rattle.qe_program.specs.declared.reply.Reply.{Reply}
 use Rattle.qe_program.specs.declared.status.Status.{Status}
 use Rattle.qe_program.specs.declared.status.Status.TheVariants as status
@@ -62,7 +62,7 @@ abbrev pub RepliesToBlocks : ℕ → List Block → Formula → List Letters →
 RepliesToBlocks limit bs m all whole reply = RepliesByFormula limit bs m all whole reply ⊎ RepliesByNode limit bs m all reply ⊎ RepliesByLimit limit bs m reply
 
 abbrev pub RepliesToPrenex : ℕ → Prenex → Reply → Type 0
-RepliesToPrenex limit p reply = RepliesToBlocks limit (blocks_of p.blocks.items) (tree p.matrix) p.names (stands_for p) reply
+RepliesToPrenex limit p reply = RepliesToBlocks limit p.blocks.items (tree p.matrix) p.names (stands_for p) reply
 
 -- ---- a formula with names
 

@@ -23,7 +23,8 @@ fn operation_sign(op: Op) -> &'static str
 
 /// Appends a kind of fault, and the offset where it is.
 fn push_placed(out: &mut String, kind: &str, place: u32) -> Result<(), OutOfMemory>
-    ensures { OnOk result (string_bytes out.new ≡ string_bytes out.old ++ placed_text kind.now place) }
+    ensures { OnOk result (string_bytes out.new ≡ string_bytes out.old
+        ++ placed_text kind.now place) }
 {
     write!(out, "bad input: {kind} at {place}")
 }
@@ -37,9 +38,10 @@ pub fn push_wide(out: &mut String, wide: &Wide) -> Result<(), OutOfMemory>
     write!(out, ": {left} {} {right}", operation_sign(wide.op))
 }
 
-/// Appends the text of a fault; want of memory has none.
+/// Appends the text of a fault; out of memory has none.
 fn push_fault(out: &mut String, fault: &ReadFault) -> Result<(), OutOfMemory>
-    ensures text { OnOk result (string_bytes out.new ≡ string_bytes out.old ++ fault_text fault.now) }
+    ensures text { OnOk result (string_bytes out.new ≡ string_bytes out.old
+        ++ fault_text fault.now) }
     ensures fault { OnOk result (fault.now ≢ ReadFault.OutOfMemory) }
 {
     match fault {
@@ -57,7 +59,7 @@ fn push_fault(out: &mut String, fault: &ReadFault) -> Result<(), OutOfMemory>
     }
 }
 
-/// The line of a fault. `Err` where the fault is want of memory, or for want of memory.
+/// The line of a fault. `Err` where the fault is out of memory, or where memory runs out.
 pub fn fault_line(alloc: Global, fault: &ReadFault) -> Result<Vec<u8>, OutOfMemory>
     ensures text { IfOk result (λ bytes. bytes.items ≡ fault_line fault.now) }
     ensures fault { IfOk result (λ _. fault.now ≢ ReadFault.OutOfMemory) }

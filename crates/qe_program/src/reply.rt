@@ -102,7 +102,8 @@ fn node_fails(
     stop: &NodeStop,
     names: &Names,
 ) -> Result<Reply, OutOfMemory>
-    ensures { IfOk result (Says (stop_status stop.now) (node_line names.now block (steps_of path.now) stop.now)) }
+    ensures { IfOk result (Says (stop_status stop.now)
+        (node_line names.now block (steps_of path.now) stop.now)) }
 {
     Ok(Reply {
         status: stop_status(stop),

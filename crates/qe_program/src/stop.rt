@@ -17,7 +17,8 @@ use std::fmt::Write;
 
 /// A step: the name of its variable, `:` and the number of its test point.
 fn step_text(alloc: Global, step: &Step, names: &Names) -> Result<Vec<u8>, OutOfMemory>
-    ensures { IfOk result (λ text. text.items ≡ step_text names.now (record { var = step.now.var.0; point = step.now.point })) }
+    ensures { IfOk result (λ text. text.items
+        ≡ step_text names.now (record { var = step.now.var.0; point = step.now.point })) }
 {
     let mut text = name_text(alloc, step.var, names)?;
     let point = format!(in alloc; ":{}", step.point)?;
@@ -108,7 +109,8 @@ pub fn node_line(
     stop: &NodeStop,
     names: &Names,
 ) -> Result<Vec<u8>, OutOfMemory>
-    ensures { IfOk result (λ text. text.items ≡ node_line names.now block (steps_of path.now) stop.now) }
+    ensures { IfOk result (λ text. text.items
+        ≡ node_line names.now block (steps_of path.now) stop.now) }
 {
     let head = format!(in alloc; "{}: block {block} node ", cause_text(stop))?;
     let mut site = String::new(alloc);

@@ -18,7 +18,8 @@ pub fn two_less_root_four()
 
 /// `sqrt(2)*sqrt(2) - 2` is zero, where the two roots come from two towers.
 pub fn root_two_squared()
-    ensures { sign_of (difference number_operations (mul (root_of 2) (root_of 2)) (whole_number (pos 2))) ≡ Zero }
+    ensures { sign_of (difference number_operations (mul (root_of 2) (root_of 2))
+        (whole_number (pos 2))) ≡ Zero }
 {}
 
 /// `(1 + sqrt(5))/2` solves `x^2 = x + 1`.

@@ -11,18 +11,19 @@ use Rattle.qe_form.specs.Plain.{ArePlainWith}
 use Rattle.qe_form.specs.Same.{IsFree, IsFreeInSome, HasNoQuantifier}
 use Rattle.qe_form.proofs.Occurring.{occurring_is_free}
 use Rattle.qe_simp.specs.Simplified.{simplified}
-use Rattle.qe_tree.specs.Variables.{remaining, under_ex, under_all}
+use Rattle.qe_form.specs.Blocks.{Kind, exists, for_all, Block, under_each, under_blocks}
+use Rattle.qe_tree.specs.Variables.{remaining, under_ex}
 use Rattle.qe_tree.specs.Expanded.{Expansion}
 use Rattle.qe_tree.specs.Tree.{Step, Place, Inner, form, node, is_empty, is_leaf, places, nodes, leaves, first_failure, has_true_leaf, or_form, inner}
 use Rattle.qe_tree.specs.Sound.{IsIn, Each, IsFine, IsReady, IsSound}
-use Rattle.qe_tree.specs.Block.{Quantifier, exists, for_all, Block, quantified_by, prenex, opened, root, closed, Eliminated, given, stopped, of_inner, block_over, eliminated_from, eliminated}
+use Rattle.qe_tree.specs.Block.{matrix_for, root, result_for, Eliminated, given, stopped, of_inner, block_over, eliminated_from, eliminated}
 use Rattle.qe_tree.proofs.Occurs.{is_left}
 use Rattle.qe_tree.proofs.Quantified.{whole_is}
 use Rattle.qe_tree.proofs.Growth.{fine_no_quantifier}
 use Rattle.qe_tree.proofs.Walks.{EachForm, SomeForm, good_walk, has_walk}
 use Rattle.qe_tree.proofs.FirstPlaces.{each_firsts, firsts_each, firsts_some, some_firsts}
 use Rattle.qe_tree.proofs.Leaves.{LeafIs, Sound, has_true_some, no_failure, leaves_true, leaves_each, leaf_makes_true, true_has_leaf}
-use Rattle.qe_tree.proofs.Stands.{Stands, keeps_stands, stands_itself, then_stands, stands_under_ex, stands_under_all, free_under_ex, agree_by_truth, negated_fine, stands_for_all}
+use Rattle.qe_tree.proofs.Stands.{Stands, keeps_stands, stands_itself, then_stands, stands_under_each, free_under_ex, agree_by_truth, negated_fine, stands_for_all}
 
 module _ {F : Type 0} (Good : Formula → Type 0) (expand : Expansion F) (sound : IsSound Good expand) where
   -- a formula of the method that stands for f
@@ -142,56 +143,52 @@ module _ {F : Type 0} (Good : Formula → Type 0) (expand : Expansion F) (sound 
 
   -- ---- blocks
 
-  opened_fine : (kind : Quantifier) (m : Formula) → IsFine m → IsFine (opened kind m)
-  opened_fine exists m fine = fine
-  opened_fine for_all m fine = negated_fine m fine
+  matrix_fine : (kind : Kind) (m : Formula) → IsFine m → IsFine (matrix_for kind m)
+  matrix_fine exists m fine = fine
+  matrix_fine for_all m fine = negated_fine m fine
 
   -- what the tree of the block gives over a matrix
-  tree_stands : (kind : Quantifier) (vars : List ℕ) (m h : Formula) → IsReady Good (opened kind m) → inner expand vars (root kind m) ≡ form h → StandsFine (quantified_by kind vars m) (closed kind h)
+  tree_stands : (kind : Kind) (vars : List ℕ) (m h : Formula) → IsReady Good (matrix_for kind m) → inner expand vars (root kind m) ≡ form h → StandsFine (under_each kind vars m) (result_for kind h)
   tree_stands exists vars m h ready is =
       let w = inner_stands vars (simplified m) ready.good h is in
       record {
         fine = w.fine;
-        stands = then_stands (under_ex vars m) (under_ex vars (simplified m)) h (stands_under_ex vars m (simplified m) (keeps_stands m (simplified m) ready.keeps)) w.stands;
+        stands = then_stands (under_ex vars m) (under_ex vars (simplified m)) h (stands_under_each exists vars m (simplified m) (keeps_stands m (simplified m) ready.keeps)) w.stands;
       }
   tree_stands for_all vars m h ready is =
       let w = inner_stands vars (simplified (negated m)) ready.good h is in
       let root_stands = keeps_stands (negated m) (simplified (negated m)) ready.keeps in
-      let ex = then_stands (under_ex vars (negated m)) (under_ex vars (simplified (negated m))) h (stands_under_ex vars (negated m) (simplified (negated m)) root_stands) w.stands in
-      let closed_fine = negated_fine h w.fine in
+      let ex = then_stands (under_ex vars (negated m)) (under_ex vars (simplified (negated m))) h (stands_under_each exists vars (negated m) (simplified (negated m)) root_stands) w.stands in
+      let result_fine = negated_fine h w.fine in
       record {
-        fine = simplified_fine (negated h) closed_fine;
-        stands = then_stands (under_all vars m) (negated h) (simplified (negated h)) (stands_for_all vars m h ex) (simplified_stands (negated h) closed_fine);
+        fine = simplified_fine (negated h) result_fine;
+        stands = then_stands (under_each for_all vars m) (negated h) (simplified (negated h)) (stands_for_all vars m h ex) (simplified_stands (negated h) result_fine);
       }
 
-  under_quantifiers : (kind : Quantifier) (vars : List ℕ) (f g : Formula) → Stands f g → Stands (quantified_by kind vars f) (quantified_by kind vars g)
-  under_quantifiers exists vars f g s = stands_under_ex vars f g s
-  under_quantifiers for_all vars f g s = stands_under_all vars f g s
-
   -- what the block gives over a matrix that stands for f
-  pub block_stands : (b : Block) (n : ℕ) (f m g : Formula) → Stands f m → IsReady Good (opened b.kind m) → block_over expand b n (given m) ≡ given g → StandsFine (quantified_by b.kind b.vars f) g
+  pub block_stands : (b : Block) (n : ℕ) (f m g : Formula) → Stands f m → IsReady Good (matrix_for b.kind m) → block_over expand b n (given m) ≡ given g → StandsFine (under_each b.kind b.vars f) g
   block_stands b n f m g s ready = by_inner (inner expand b.vars (root b.kind m)) refl
     where
-      by_inner : (i : Inner F) → inner expand b.vars (root b.kind m) ≡ i → of_inner expand b.kind n i ≡ given g → StandsFine (quantified_by b.kind b.vars f) g
+      by_inner : (i : Inner F) → inner expand b.vars (root b.kind m) ≡ i → of_inner expand b.kind n i ≡ given g → StandsFine (under_each b.kind b.vars f) g
       by_inner (form h) is gives =
           let w = tree_stands b.kind b.vars m h ready is in
-          let same : closed b.kind h ≡ g = cc in
-          subst (StandsFine (quantified_by b.kind b.vars f)) same (record {
+          let same : result_for b.kind h ≡ g = cc in
+          subst (StandsFine (under_each b.kind b.vars f)) same (record {
             fine = w.fine;
-            stands = then_stands (quantified_by b.kind b.vars f) (quantified_by b.kind b.vars m) (closed b.kind h) (under_quantifiers b.kind b.vars f m s) w.stands;
+            stands = then_stands (under_each b.kind b.vars f) (under_each b.kind b.vars m) (result_for b.kind h) (stands_under_each b.kind b.vars f m s) w.stands;
           })
       by_inner (node path s) is gives = absurd (cc)
 
-  over_block : (b : Block) (n : ℕ) (f g : Formula) (e : Eliminated F) → ((m : Formula) → e ≡ given m → StandsFine f m) → block_over expand b n e ≡ given g → StandsFine (quantified_by b.kind b.vars f) g
+  over_block : (b : Block) (n : ℕ) (f g : Formula) (e : Eliminated F) → ((m : Formula) → e ≡ given m → StandsFine f m) → block_over expand b n e ≡ given g → StandsFine (under_each b.kind b.vars f) g
   over_block b n f g (given m) further gives =
       let w = further m refl in
-      block_stands b n f m g w.stands (fine_ready (opened b.kind m) (opened_fine b.kind m w.fine)) gives
+      block_stands b n f m g w.stands (fine_ready (matrix_for b.kind m) (matrix_fine b.kind m w.fine)) gives
   over_block b n f g (stopped k path s) further gives = absurd (cc)
 
-  from_stands : (n : ℕ) (bs : List Block) (m g : Formula) → IsFine m → eliminated_from expand n bs m ≡ given g → StandsFine (prenex bs m) g
+  from_stands : (n : ℕ) (bs : List Block) (m g : Formula) → IsFine m → eliminated_from expand n bs m ≡ given g → StandsFine (under_blocks bs m) g
   from_stands n [] m g fine is = let same : m ≡ g = cc in subst (StandsFine m) same (record { fine = fine; stands = stands_itself m })
-  from_stands n (b ∷ bs) m g fine is = over_block b n (prenex bs m) g (eliminated_from expand (suc n) bs m) (λ h e. from_stands (suc n) bs m h fine e) is
+  from_stands n (b ∷ bs) m g fine is = over_block b n (under_blocks bs m) g (eliminated_from expand (suc n) bs m) (λ h e. from_stands (suc n) bs m h fine e) is
 
-  pub eliminated_stands : (bs : List Block) (m g : Formula) → IsFine m → eliminated expand bs m ≡ given g → StandsFine (prenex bs m) g
+  pub eliminated_stands : (bs : List Block) (m g : Formula) → IsFine m → eliminated expand bs m ≡ given g → StandsFine (under_blocks bs m) g
   eliminated_stands [] m g fine is = let same : simplified m ≡ g = cc in subst (StandsFine m) same (record { fine = simplified_fine m fine; stands = simplified_stands m fine })
   eliminated_stands (b ∷ bs) m g fine is = from_stands 1 (b ∷ bs) m g fine is

@@ -2,7 +2,8 @@
 use Rattle.std.proofs.Common.{◌≡◌, ap, refl, Bool, true, false, cond, ◌||◌, List, [], ◌∷◌, ◌++◌, Option, Some, None, ℕ}
 use Rattle.qe_form.specs.Formula.{Formula}
 use Rattle.qe_tree.specs.Expanded.{Expansion}
-use Rattle.qe_tree.specs.Tree.{Step, Place, is_true, is_leaf, failure, leaves, or_fails, first_failure, has_true_leaf}
+use Rattle.qe_form.specs.Making.{is_true}
+use Rattle.qe_tree.specs.Tree.{Step, Place, is_leaf, failure, leaves, or_fails, first_failure, has_true_leaf}
 
 module _ {F : Type 0} (expand : Expansion F) (vars : List ℕ) where
   abbrev pub one_leaf : Place → List Formula

@@ -5,11 +5,11 @@ use Rattle.qe_tower.specs.Point.{Point, IsPoint}
 use Rattle.qe_form.specs.Formula.{Formula, True}
 use Rattle.qe_form.specs.Tree.{trees_of}
 use Rattle.qe_form.specs.Truth.{Is, SomeIs}
-use Rattle.qe_tree.specs.Variables.{remaining, under_ex}
+use Rattle.qe_tree.specs.Variables.{remaining, under_ex, existential_closure}
 use Rattle.qe_tree.specs.Expanded.{Expansion}
-use Rattle.qe_tree.specs.Tree.{Step, Place, is_empty, is_true, is_leaf, below, failure, walk, leaves, or_fails, first_failure, has_true_leaf}
+use Rattle.qe_form.specs.Making.{is_true}
+use Rattle.qe_tree.specs.Tree.{Step, Place, is_empty, is_leaf, below, failure, walk, leaves, or_fails, first_failure, has_true_leaf}
 use Rattle.qe_tree.specs.Sound.{Each, forms_of, IsSound}
-use Rattle.qe_tree.specs.Laws.{whole}
 use Rattle.qe_tree.proofs.Walks.{EachForm, SomeForm, append-EachForm, append-SomeForm, SomeForm-append, with_step, Kind, leaf, fails, grows, kind_of, IsBelow, left_of, each_below}
 use Rattle.qe_tree.proofs.Growth.{growth_keeps_truth}
 
@@ -34,7 +34,7 @@ module _ {F : Type 0} (expand : Expansion F) (vars : List ℕ) where
   abbrev pub Sound : Formula → Type 0
   Sound f = failure expand vars f ≡ None
 
-  whole_leaf : (f : Formula) (p : Point) → is_leaf expand vars f ≡ true → whole vars f ≡ f
+  whole_leaf : (f : Formula) (p : Point) → is_leaf expand vars f ≡ true → existential_closure vars f ≡ f
   whole_leaf f p test = ap (λ l. under_ex l f) (is_empty_is (remaining vars f) test)
 
   pub true_leaf : (p : Point) (f : Formula) → is_true f ≡ true → LeafIs p f
@@ -96,10 +96,10 @@ module _ {F : Type 0} (Good : Formula → Type 0) (expand : Expansion F) (sound 
   -- ---- a true leaf makes the node true
 
   abbrev LeafMakesTrue : ℕ → Type 0
-  LeafMakesTrue n = (path : List Step) (f : Formula) → Good f → (p : Point) → IsPoint p → SomeForm (Leaf p) (walk expand vars n path f) → Is (whole vars f) true p
+  LeafMakesTrue n = (path : List Step) (f : Formula) → Good f → (p : Point) → IsPoint p → SomeForm (Leaf p) (walk expand vars n path f) → Is (existential_closure vars f) true p
 
   leaf_parts : (n : ℕ) → LeafMakesTrue n → (path : List Step) (f : Formula) (x : ℕ) (parts : List (ℕ × Formula)) → Each (λ s. Below f s.1) parts → (p : Point) → IsPoint p
-      → SomeForm (Leaf p) (further n path (map (with_step x) parts)) → SomeIs (trees_of (map (whole vars) (forms_of parts))) true p
+      → SomeForm (Leaf p) (further n path (map (with_step x) parts)) → SomeIs (trees_of (map (existential_closure vars) (forms_of parts))) true p
   leaf_parts n again path f x [] each p valid some = absurd some
   leaf_parts n again path f x (s ∷ parts) each p valid some =
       elim (append-SomeForm (Leaf p) (walk expand vars n (path ++ record { var = x; point = s.0 } ∷ []) s.1) (further n path (map (with_step x) parts)) some) [
@@ -107,14 +107,14 @@ module _ {F : Type 0} (Good : Formula → Type 0) (expand : Expansion F) (sound 
         | inr there ↦ inr (leaf_parts n again path f x parts each.1 p valid there)
       ]
 
-  itself : (f : Formula) (p : Point) → Leaf p f → Is (whole vars f) true p
+  itself : (f : Formula) (p : Point) → Leaf p f → Is (existential_closure vars f) true p
   itself f p h = let same = whole_leaf expand vars f p h.0 in subst (λ g. Is g true p) (sym same) h.1
 
   pub leaf_makes_true : (n : ℕ) → LeafMakesTrue n
   leaf_makes_true zero path f good p valid some = elim some [ inl h ↦ itself f p h | inr never ↦ absurd never ]
   leaf_makes_true (suc n) path f good p valid some = by_kind (leaf_makes_true n) (kind_of expand vars f) some
     where
-      by_kind : LeafMakesTrue n → Kind expand vars f → SomeForm (Leaf p) (record { path = path; form = f } ∷ further n path (below expand vars f)) → Is (whole vars f) true p
+      by_kind : LeafMakesTrue n → Kind expand vars f → SomeForm (Leaf p) (record { path = path; form = f } ∷ further n path (below expand vars f)) → Is (existential_closure vars f) true p
       by_kind again (leaf gone none fine) (inl h) = itself f p h
       by_kind again (leaf gone none fine) (inr h) = absurd (subst (λ ss. SomeForm (Leaf p) (further n path ss)) none h)
       by_kind again (fails s none fault) (inl h) = itself f p h
@@ -127,10 +127,10 @@ module _ {F : Type 0} (Good : Formula → Type 0) (expand : Expansion F) (sound 
   -- ---- where no node fails, a true node has a true leaf
 
   abbrev TrueHasLeaf : ℕ → Type 0
-  TrueHasLeaf n = (path : List Step) (f : Formula) → Good f → left f ≤ n → (p : Point) → IsPoint p → EachForm (Sound expand vars) (walk expand vars n path f) → Is (whole vars f) true p → SomeForm (Leaf p) (walk expand vars n path f)
+  TrueHasLeaf n = (path : List Step) (f : Formula) → Good f → left f ≤ n → (p : Point) → IsPoint p → EachForm (Sound expand vars) (walk expand vars n path f) → Is (existential_closure vars f) true p → SomeForm (Leaf p) (walk expand vars n path f)
 
   parts_leaf : (n : ℕ) → TrueHasLeaf n → (path : List Step) (f : Formula) → left f ≤ suc n → (x : ℕ) (parts : List (ℕ × Formula)) → Each (λ s. Below f s.1) parts → (p : Point) → IsPoint p
-      → EachForm (Sound expand vars) (further n path (map (with_step x) parts)) → SomeIs (trees_of (map (whole vars) (forms_of parts))) true p → SomeForm (Leaf p) (further n path (map (with_step x) parts))
+      → EachForm (Sound expand vars) (further n path (map (with_step x) parts)) → SomeIs (trees_of (map (existential_closure vars) (forms_of parts))) true p → SomeForm (Leaf p) (further n path (map (with_step x) parts))
   parts_leaf n again path f few x [] each p valid none some = absurd some
   parts_leaf n again path f few x (s ∷ parts) each p valid none some =
       let first = walk expand vars n (path ++ record { var = x; point = s.0 } ∷ []) s.1 in
@@ -145,7 +145,7 @@ module _ {F : Type 0} (Good : Formula → Type 0) (expand : Expansion F) (sound 
   is_leaf_of : (f : Formula) → remaining vars f ≡ [] → is_leaf expand vars f ≡ true
   is_leaf_of f gone = ap is_empty gone
 
-  leaf_itself : (f : Formula) (p : Point) → remaining vars f ≡ [] → Is (whole vars f) true p → Leaf p f
+  leaf_itself : (f : Formula) (p : Point) → remaining vars f ≡ [] → Is (existential_closure vars f) true p → Leaf p f
   leaf_itself f p gone t = (is_leaf_of f gone, subst (λ l. Is (under_ex l f) true p) gone t)
 
   few_gone : (l : List ℕ) → length l ≤ 0 → l ≡ []

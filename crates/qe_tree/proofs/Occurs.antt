@@ -1,51 +1,11 @@
--- Which variables occur in a formula, and which are left of a list.
-use Rattle.std.proofs.Common.{ℕ, ◌≡◌, ◌≢◌, ◌∙◌, sym, ap, refl, ◌<◌, ◌≤◌, ◌⊎◌, inl, inr, ◌↔◌, Bool, true, false, cond, eqb, ◌||◌, List, [], ◌∷◌, length, filter, arith}
-use Rattle.std.specs.Prelude.{IsTrue}
-use Rattle.std.proofs.lemmas.Bool.{eq-eqb, eqb-true}
+-- Which of the variables of a list are left in a formula.
+use Rattle.std.proofs.Common.{ℕ, ◌≡◌, ◌≢◌, ◌∙◌, sym, ap, refl, ◌<◌, ◌≤◌, ◌⊎◌, inl, inr, Bool, true, false, cond, List, [], ◌∷◌, length, filter, arith}
 use Rattle.std.proofs.lemmas.Bool.Decides.{eqb_tells}
-use Rattle.qe_poly.specs.Monomial.{Monomial}
-use Rattle.qe_poly.specs.Polynomial.{Polynomial}
-use Rattle.qe_form.specs.Formula.{Formula, Formulas, True, False, Atom, And, Or, Not, Implies, Iff, Ex, All, no_more, more}
-use Rattle.qe_poly.specs.Occurs.{OccursIn, OccursInSome}
-use Rattle.qe_form.specs.Measures.{Has, SomeHas}
-use Rattle.qe_tree.specs.Variables.{occurs_in, occurs_in_some, occurs, some_occurs, remaining}
+use Rattle.qe_form.specs.Formula.{Formula}
+use Rattle.qe_form.specs.Measures.{Has, occurs}
+use Rattle.qe_form.proofs.Occurring.{occurs_is_has}
+use Rattle.qe_tree.specs.Variables.{remaining}
 use Rattle.qe_tree.specs.Sound.{IsIn}
-
-either_test : (a b : Bool) {A B : Type 0} → IsTrue a ↔ A → IsTrue b ↔ B → IsTrue (a || b) ↔ (A ⊎ B)
-either_test true b first second = ((λ t. inl (first.0 refl)), (λ h. refl))
-either_test false b first second = ((λ t. inr (second.0 t)), (λ h. elim h [ inl x ↦ absurd (let e = first.1 x in cc) | inr y ↦ second.1 y ]))
-
-never_test : IsTrue false ↔ ⊥
-never_test = ((λ t. absurd (cc)), (λ h. absurd h))
-
-number_test : (a b : ℕ) → IsTrue (eqb a b) ↔ (a ≡ b)
-number_test a b = (eqb-true a b, eq-eqb a b)
-
-occurs_in_is : (x : ℕ) (m : Monomial) → IsTrue (occurs_in x m) ↔ OccursIn x m
-occurs_in_is x [] = never_test
-occurs_in_is x (a ∷ m) = either_test (eqb a.var.0 x) (occurs_in x m) (number_test a.var.0 x) (occurs_in_is x m)
-
-occurs_in_some_is : (x : ℕ) (q : Polynomial) → IsTrue (occurs_in_some x q) ↔ OccursInSome x q
-occurs_in_some_is x [] = never_test
-occurs_in_some_is x (t ∷ ts) = either_test (occurs_in x t.0) (occurs_in_some x ts) (occurs_in_is x t.0) (occurs_in_some_is x ts)
-
-mutual
-  -- the test tells whether the formula has the variable
-  pub occurs_is_has : (x : ℕ) (f : Formula) → IsTrue (occurs x f) ↔ Has x f
-  occurs_is_has x True = never_test
-  occurs_is_has x False = never_test
-  occurs_is_has x (Atom a) = occurs_in_some_is x a.poly
-  occurs_is_has x (And fs) = some_occurs_is_has x fs
-  occurs_is_has x (Or fs) = some_occurs_is_has x fs
-  occurs_is_has x (Not f) = occurs_is_has x f
-  occurs_is_has x (Implies f g) = either_test (occurs x f) (occurs x g) (occurs_is_has x f) (occurs_is_has x g)
-  occurs_is_has x (Iff f g) = either_test (occurs x f) (occurs x g) (occurs_is_has x f) (occurs_is_has x g)
-  occurs_is_has x (Ex y f) = occurs_is_has x f
-  occurs_is_has x (All y f) = occurs_is_has x f
-
-  some_occurs_is_has : (x : ℕ) (fs : Formulas) → IsTrue (some_occurs x fs) ↔ SomeHas x fs
-  some_occurs_is_has x no_more = never_test
-  some_occurs_is_has x (more f fs) = either_test (occurs x f) (some_occurs x fs) (occurs_is_has x f) (some_occurs_is_has x fs)
 
 -- ---- the elements of a list that pass a test
 

@@ -8,9 +8,8 @@ use Rattle.qe_form.specs.Truth.{Is}
 use Rattle.qe_form.specs.Same.{HasNoQuantifier}
 use Rattle.qe_form.specs.Measures.{Has}
 use Rattle.qe_form.proofs.Values.{number_at_valid}
-use Rattle.qe_tree.specs.Variables.{remaining, under_ex}
+use Rattle.qe_tree.specs.Variables.{remaining, under_ex, existential_closure}
 use Rattle.qe_tree.specs.Sound.{IsIn}
-use Rattle.qe_tree.specs.Laws.{whole}
 use Rattle.qe_tree.proofs.Occurs.{in_or_not, is_left, left_in}
 use Rattle.qe_tree.proofs.SameNumbers.{SameOn, moved}
 
@@ -76,16 +75,16 @@ reaches_under_ex xs f none r p valid same t = from_pick xs f r p valid (moved f 
 
 -- ---- a node
 
-pub whole_reaches : (vars : List ℕ) (f : Formula) (p : Point) → IsPoint p → Is (whole vars f) true p → Reaches vars f p
+pub whole_reaches : (vars : List ℕ) (f : Formula) (p : Point) → IsPoint p → Is (existential_closure vars f) true p → Reaches vars f p
 whole_reaches vars f p valid t =
     let w = under_ex_reaches (remaining vars f) f p valid t in record { at = w.at; valid = w.valid; off = λ y no. w.off y (λ left. no (left_in vars f y left).0); is = w.is }
 
-pub reaches_whole : (vars : List ℕ) (f : Formula) → HasNoQuantifier f → (p : Point) → Reaches vars f p → Is (whole vars f) true p
+pub reaches_whole : (vars : List ℕ) (f : Formula) → HasNoQuantifier f → (p : Point) → Reaches vars f p → Is (existential_closure vars f) true p
 reaches_whole vars f none p w =
     reaches_under_ex (remaining vars f) f none w.at p w.valid (λ y has. elim (in_or_not y vars) [ inl h ↦ inl (is_left vars f y h has) | inr beyond ↦ inr (w.off y beyond) ]) w.is
 
 -- the variables that do not occur do not matter
-pub whole_is : (vars : List ℕ) (f : Formula) → HasNoQuantifier f → (p : Point) → IsPoint p → Is (under_ex vars f) true p ↔ Is (whole vars f) true p
+pub whole_is : (vars : List ℕ) (f : Formula) → HasNoQuantifier f → (p : Point) → IsPoint p → Is (under_ex vars f) true p ↔ Is (existential_closure vars f) true p
 whole_is vars f none p valid = (
   (λ t. reaches_whole vars f none p (under_ex_reaches vars f p valid t)),
   (λ t. let w = whole_reaches vars f p valid t in

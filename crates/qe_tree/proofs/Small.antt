@@ -11,7 +11,8 @@ use Rattle.qe_tree.specs.Variables.{remaining}
 use Rattle.qe_tree.specs.Expanded.{Expansion}
 use Rattle.qe_tree.specs.Tree.{Step, Place, Inner, form, node, is_empty, unless_leaf, grown, is_leaf, below, walk, places, first_places, nodes, leaves, first_failure, has_true_leaf, or_form, inner}
 use Rattle.qe_tree.specs.Sound.{Each, IsFine, IsReady, IsSound}
-use Rattle.qe_tree.specs.Block.{Quantifier, exists, for_all, Block, opened, root, closed, given, of_inner, block_over, Fits}
+use Rattle.qe_form.specs.Blocks.{Kind, exists, for_all, Block}
+use Rattle.qe_tree.specs.Block.{matrix_for, root, result_for, given, of_inner, block_over, Fits}
 use Rattle.qe_tree.proofs.Stands.{negated_fine}
 use Rattle.qe_tree.proofs.Walks.{EachForm, EachForm-append, IsBelow, all_below, each_walk}
 use Rattle.qe_tree.proofs.FirstPlaces.{each_firsts}
@@ -38,12 +39,12 @@ mutual
 pub ready_small : (Good : Formula → Type 0) (f : Formula) → IsReady Good f → count f < 2 ^ 50 → count (simplified f) < 2 ^ 50
 ready_small Good f ready small = let size = ready.keeps.size in omega arith
 
-opened_small : (kind : Quantifier) (m : Formula) → count m < 2 ^ 50 → count (opened kind m) < 2 ^ 50
-opened_small exists m small = small
-opened_small for_all m small = subst (λ n. n < 2 ^ 50) (sym (count_negated m)) small
+matrix_small : (kind : Kind) (m : Formula) → count m < 2 ^ 50 → count (matrix_for kind m) < 2 ^ 50
+matrix_small exists m small = small
+matrix_small for_all m small = subst (λ n. n < 2 ^ 50) (sym (count_negated m)) small
 
-pub root_small : (Good : Formula → Type 0) (kind : Quantifier) (m : Formula) → IsReady Good (opened kind m) → count m < 2 ^ 50 → count (root kind m) < 2 ^ 50
-root_small Good kind m ready small = ready_small Good (opened kind m) ready (opened_small kind m small)
+pub root_small : (Good : Formula → Type 0) (kind : Kind) (m : Formula) → IsReady Good (matrix_for kind m) → count m < 2 ^ 50 → count (root kind m) < 2 ^ 50
+root_small Good kind m ready small = ready_small Good (matrix_for kind m) ready (matrix_small kind m small)
 
 module _ {F : Type 0} (Good : Formula → Type 0) (expand : Expansion F) (sound : IsSound Good expand) (vars : List ℕ) where
   abbrev Small : Formula → Type 0
@@ -127,17 +128,17 @@ module _ {F : Type 0} (Good : Formula → Type 0) (expand : Expansion F) (sound 
       by_leaf false test is (inr most) few small = by_failure (first_failure expand vars (nodes expand vars f)) is most few small
 
 module _ {F : Type 0} (Good : Formula → Type 0) (expand : Expansion F) (sound : IsSound Good expand) where
-  closed_small : (kind : Quantifier) (h : Formula) → IsFine h → count h < 2 ^ 50 → count (closed kind h) < 2 ^ 50
-  closed_small exists h fine small = small
-  closed_small for_all h fine small = ready_small Good (negated h) (fine_ready Good expand sound (negated h) (negated_fine h fine)) (opened_small for_all h small)
+  result_small : (kind : Kind) (h : Formula) → IsFine h → count h < 2 ^ 50 → count (result_for kind h) < 2 ^ 50
+  result_small exists h fine small = small
+  result_small for_all h fine small = ready_small Good (negated h) (fine_ready Good expand sound (negated h) (negated_fine h fine)) (matrix_small for_all h small)
 
   -- the formula that a block gives
-  pub block_small : (b : Block) (n : ℕ) (m g : Formula) (limit : ℕ) → IsReady Good (opened b.kind m) → block_over expand b n (given m) ≡ given g → Fits expand limit b m → limit < 2 ^ 32 → count m < 2 ^ 50 → count g < 2 ^ 50
+  pub block_small : (b : Block) (n : ℕ) (m g : Formula) (limit : ℕ) → IsReady Good (matrix_for b.kind m) → block_over expand b n (given m) ≡ given g → Fits expand limit b m → limit < 2 ^ 32 → count m < 2 ^ 50 → count g < 2 ^ 50
   block_small b n m g limit ready = by_inner (inner expand b.vars (root b.kind m)) refl
     where
       by_inner : (i : Inner F) → inner expand b.vars (root b.kind m) ≡ i → of_inner expand b.kind n i ≡ given g → Fits expand limit b m → limit < 2 ^ 32 → count m < 2 ^ 50 → count g < 2 ^ 50
       by_inner (form h) is gives fits few small =
-          let same : closed b.kind h ≡ g = cc in
-          subst (λ k. count k < 2 ^ 50) same (closed_small b.kind h (inner_stands Good expand sound b.vars (root b.kind m) ready.good h is).fine
+          let same : result_for b.kind h ≡ g = cc in
+          subst (λ k. count k < 2 ^ 50) same (result_small b.kind h (inner_stands Good expand sound b.vars (root b.kind m) ready.good h is).fine
           (inner_small Good expand sound b.vars (root b.kind m) ready.good h limit is fits few (root_small Good b.kind m ready small)))
       by_inner (node path s) is gives fits few small = absurd (cc)

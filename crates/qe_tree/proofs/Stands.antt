@@ -10,7 +10,8 @@ use Rattle.qe_form.specs.Negation.{negated, negated_each}
 use Rattle.qe_form.proofs.TwoSides.{never_both, decided}
 use Rattle.qe_form.proofs.Opposites.{negated_opposite}
 use Rattle.qe_simp.specs.Meaning.{Keeps}
-use Rattle.qe_tree.specs.Variables.{under_ex, under_all}
+use Rattle.qe_form.specs.Blocks.{Kind, exists, for_all, under_one, under_each}
+use Rattle.qe_tree.specs.Variables.{under_ex}
 use Rattle.qe_tree.specs.Sound.{IsIn, IsFine}
 
 -- g has no further free variable, and is true and false where f is so, at every point
@@ -55,13 +56,13 @@ stands_all x f g s = record { free = λ y h. (h.0, s.free y h.1); agree = agree 
       (λ t. (t.0, t.1, (s.agree ((x, t.0) ∷ p) (t.1, valid) false).1 t.2)),
     )
 
-pub stands_under_ex : (xs : List ℕ) (f g : Formula) → Stands f g → Stands (under_ex xs f) (under_ex xs g)
-stands_under_ex [] f g s = s
-stands_under_ex (x ∷ xs) f g s = stands_ex x (under_ex xs f) (under_ex xs g) (stands_under_ex xs f g s)
+stands_under_one : (kind : Kind) (x : ℕ) (f g : Formula) → Stands f g → Stands (under_one kind x f) (under_one kind x g)
+stands_under_one exists x f g s = stands_ex x f g s
+stands_under_one for_all x f g s = stands_all x f g s
 
-pub stands_under_all : (xs : List ℕ) (f g : Formula) → Stands f g → Stands (under_all xs f) (under_all xs g)
-stands_under_all [] f g s = s
-stands_under_all (x ∷ xs) f g s = stands_all x (under_all xs f) (under_all xs g) (stands_under_all xs f g s)
+pub stands_under_each : (kind : Kind) (xs : List ℕ) (f g : Formula) → Stands f g → Stands (under_each kind xs f) (under_each kind xs g)
+stands_under_each kind [] f g s = s
+stands_under_each kind (x ∷ xs) f g s = stands_under_one kind x (under_each kind xs f) (under_each kind xs g) (stands_under_each kind xs f g s)
 
 -- a variable of the formula that is not among those of the quantifiers is free
 pub free_under_ex : (xs : List ℕ) (f : Formula) (y : ℕ) → (IsIn y xs → ⊥) → IsFree y f → IsFree y (under_ex xs f)
@@ -137,13 +138,13 @@ pub negated_fine : (f : Formula) → IsFine f → IsFine (negated f)
 negated_fine f fine = negated_plain IsPolynomial f fine
 
 -- each value fits exactly where no value fits the negation
-all_is_ex : (xs : List ℕ) (f : Formula) (p : Point) (b : Bool) → Is (under_all xs f) b p ↔ Is (under_ex xs (negated f)) (not b) p
+all_is_ex : (xs : List ℕ) (f : Formula) (p : Point) (b : Bool) → Is (under_each for_all xs f) b p ↔ Is (under_ex xs (negated f)) (not b) p
 all_is_ex [] f p true = ((λ t. (negated_opposite f p false).1 t), (λ t. (negated_opposite f p false).0 t))
 all_is_ex [] f p false = ((λ t. (negated_opposite f p true).1 t), (λ t. (negated_opposite f p true).0 t))
 all_is_ex (x ∷ xs) f p true = ((λ t v k. (all_is_ex xs f ((x, v) ∷ p) true).0 (t v k)), (λ t v k. (all_is_ex xs f ((x, v) ∷ p) true).1 (t v k)))
 all_is_ex (x ∷ xs) f p false = ((λ t. (t.0, t.1, (all_is_ex xs f ((x, t.0) ∷ p) false).0 t.2)), (λ t. (t.0, t.1, (all_is_ex xs f ((x, t.0) ∷ p) false).1 t.2)))
 
-ex_is_free : (xs : List ℕ) (f : Formula) (y : ℕ) → IsFree y (under_ex xs (negated f)) → IsFree y (under_all xs f)
+ex_is_free : (xs : List ℕ) (f : Formula) (y : ℕ) → IsFree y (under_ex xs (negated f)) → IsFree y (under_each for_all xs f)
 ex_is_free [] f y h = (free_negated f y).0 h
 ex_is_free (x ∷ xs) f y h = (h.0, ex_is_free xs f y h.1)
 
@@ -152,7 +153,7 @@ not_twice f true p = ((λ t. t), (λ t. t))
 not_twice f false p = ((λ t. t), (λ t. t))
 
 -- what stands for `ex` over the negation stands, negated, for `all`
-pub stands_for_all : (xs : List ℕ) (f h : Formula) → Stands (under_ex xs (negated f)) h → Stands (under_all xs f) (negated h)
+pub stands_for_all : (xs : List ℕ) (f h : Formula) → Stands (under_ex xs (negated f)) h → Stands (under_each for_all xs f) (negated h)
 stands_for_all xs f h s = record {
   free = λ y k. ex_is_free xs f y (s.free y ((free_negated h y).0 k));
   agree = λ p valid b. (

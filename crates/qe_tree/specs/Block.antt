@@ -2,42 +2,24 @@
 use Rattle.std.specs.Prelude.{ℕ, suc, ◌≡◌, ◌≤◌, ◌<◌, ◌⊎◌, IsTrue, List, [], ◌∷◌, length}
 use Rattle.qe_form.specs.Formula.{Formula}
 use Rattle.qe_form.specs.Negation.{negated}
+use Rattle.qe_form.specs.Blocks.{Kind, exists, for_all, Block}
 use Rattle.qe_simp.specs.Simplified.{simplified}
-use Rattle.qe_tree.specs.Variables.{under_ex, under_all}
 use Rattle.qe_tree.specs.Expanded.{Expansion}
 use Rattle.qe_tree.specs.Tree.{Step, Inner, form, node, nodes, inner, has_true_leaf}
 
-pub data Quantifier : Type 0 where
-  exists : Quantifier
-  for_all : Quantifier
-
--- quantifiers of one kind over variables, the outermost first
-pub record Block : Type 0 where
-  pub kind : Quantifier
-  pub vars : List ℕ
-
--- blocks over a matrix, the outermost first
-abbrev pub quantified_by : Quantifier → List ℕ → Formula → Formula
-quantified_by exists vars f = under_ex vars f
-quantified_by for_all vars f = under_all vars f
-
-abbrev pub prenex : List Block → Formula → Formula
-prenex [] m = m
-prenex (b ∷ bs) m = quantified_by b.kind b.vars (prenex bs m)
-
 -- the matrix as the block's tree takes it: negated for `all`
-abbrev pub opened : Quantifier → Formula → Formula
-opened exists m = m
-opened for_all m = negated m
+abbrev pub matrix_for : Kind → Formula → Formula
+matrix_for exists m = m
+matrix_for for_all m = negated m
 
 -- the formula at the root of a block's tree
-abbrev pub root : Quantifier → Formula → Formula
-root kind m = simplified (opened kind m)
+abbrev pub root : Kind → Formula → Formula
+root kind m = simplified (matrix_for kind m)
 
 -- what the block gives where its tree gives this formula
-abbrev pub closed : Quantifier → Formula → Formula
-closed exists g = g
-closed for_all g = simplified (negated g)
+abbrev pub result_for : Kind → Formula → Formula
+result_for exists g = g
+result_for for_all g = simplified (negated g)
 
 -- a formula without the blocks' variables; or the number of the block that stops, the steps to its first node that fails, and why
 pub data Eliminated (F : Type 0) : Type 0 where
@@ -45,8 +27,8 @@ pub data Eliminated (F : Type 0) : Type 0 where
   stopped : ℕ → List Step → F → Eliminated F
 
 module _ {F : Type 0} (expand : Expansion F) where
-  abbrev pub of_inner : Quantifier → ℕ → Inner F → Eliminated F
-  of_inner kind n (form g) = given (closed kind g)
+  abbrev pub of_inner : Kind → ℕ → Inner F → Eliminated F
+  of_inner kind n (form g) = given (result_for kind g)
   of_inner kind n (node path s) = stopped n path s
 
   -- the block with this number, over what the blocks further in give

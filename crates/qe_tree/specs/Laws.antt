@@ -3,29 +3,26 @@ use Rattle.std.specs.Prelude.{ℕ, ◌≡◌, ◌↔◌, true, List, map, IsTrue
 use Rattle.qe_tower.specs.Point.{Point, IsPoint}
 use Rattle.qe_form.specs.Formula.{Formula, Or}
 use Rattle.qe_form.specs.Tree.{trees_of}
-use Rattle.qe_form.specs.Measures.{Has}
+use Rattle.qe_form.specs.Measures.{occurs, Has}
+use Rattle.qe_form.specs.Blocks.{Block, under_blocks}
 use Rattle.qe_form.specs.Truth.{Is}
 use Rattle.qe_form.specs.Same.{Same}
-use Rattle.qe_tree.specs.Variables.{occurs, remaining, under_ex}
+use Rattle.qe_tree.specs.Variables.{remaining, under_ex, existential_closure}
 use Rattle.qe_tree.specs.Expanded.{Expansion, successors}
 use Rattle.qe_tree.specs.Tree.{form, inner}
 use Rattle.qe_tree.specs.Sound.{IsFine, forms_of}
-use Rattle.qe_tree.specs.Block.{Block, prenex, given, eliminated}
+use Rattle.qe_tree.specs.Block.{given, eliminated}
 
 -- the test of what occurs is right
 abbrev pub OccursIsHas : Type 0
 OccursIsHas = (x : ℕ) (f : Formula) → IsTrue (occurs x f) ↔ Has x f
-
--- the formula under `ex` of its variables
-abbrev pub whole : List ℕ → Formula → Formula
-whole vars f = under_ex (remaining vars f) f
 
 module _ {F : Type 0} (Good : Formula → Type 0) (expand : Expansion F) where
   -- a node is true for some values of its variables exactly where some successor is so for its own
   abbrev pub GrowthKeepsTruth : Type 0
   GrowthKeepsTruth =
       (vars : List ℕ) (f : Formula) → Good f → (x : ℕ) (parts : List (ℕ × Formula)) → expand (remaining vars f) f ≡ successors x parts
-      → (p : Point) → IsPoint p → Is (whole vars f) true p ↔ Is (Or (trees_of (map (whole vars) (forms_of parts)))) true p
+      → (p : Point) → IsPoint p → Is (existential_closure vars f) true p ↔ Is (Or (trees_of (map (existential_closure vars) (forms_of parts)))) true p
 
   -- a block's inner result, where it is a formula, is the same as the root under `ex` of the block's variables
   abbrev pub InnerIsSame : Type 0
@@ -33,4 +30,4 @@ module _ {F : Type 0} (Good : Formula → Type 0) (expand : Expansion F) where
 
   -- what elimination gives is the same as the prenex form
   abbrev pub EliminatedIsSame : Type 0
-  EliminatedIsSame = (bs : List Block) (m g : Formula) → IsFine m → eliminated expand bs m ≡ given g → IsFine g × Same (prenex bs m) g
+  EliminatedIsSame = (bs : List Block) (m g : Formula) → IsFine m → eliminated expand bs m ≡ given g → IsFine g × Same (under_blocks bs m) g

@@ -4,6 +4,7 @@ use Rattle.std.specs.List.{list_any}
 use Rattle.std.specs.Ordering.{is_eq}
 use Rattle.qe_form.specs.Formula.{Formula, True, Or}
 use Rattle.qe_form.specs.Tree.{trees_of}
+use Rattle.qe_form.specs.Making.{is_true}
 use Rattle.qe_form.specs.Order.{formula_cmp}
 use Rattle.qe_simp.specs.Simplified.{simplified}
 use Rattle.qe_tree.specs.Variables.{remaining}
@@ -22,10 +23,6 @@ pub record Place : Type 0 where
 abbrev pub is_empty : {A : Type 0} → List A → Bool
 is_empty [] = true
 is_empty (x ∷ xs) = false
-
-abbrev pub is_true : Formula → Bool
-is_true True = true
-is_true f = false
 
 -- what a block gives: a formula, or the steps to the first node that fails, and why
 pub data Inner (F : Type 0) : Type 0 where

@@ -10,7 +10,8 @@ use Rattle.qe_form.specs.Formula.{Formula}
 use Rattle.qe_form.specs.Measures.{degree}
 use Rattle.qe_points.specs.Choice.{first_of_degree, or_else, choice}
 use Rattle.qe_points.specs.Candidates.{candidates}
-use Rattle.qe_tree.specs.Variables.{occurs, remaining}
+use Rattle.qe_form.specs.Measures.{occurs}
+use Rattle.qe_tree.specs.Variables.{remaining}
 use Rattle.qe_tree.specs.Tree.{is_empty}
 use Rattle.qe_tree.specs.Sound.{IsIn}
 use Rattle.qe_piece.specs.Meaning.{Child, Descends}
@@ -18,10 +19,10 @@ use Rattle.qe_node.specs.declared.stop.NodeStop.{NodeStop}
 use Rattle.qe_node.specs.key.Code.{variables_of, form_of, key, sight_key, sight_of}
 use Rattle.qe_node.specs.Successors.{given_by, at_variable, at_choice, as_vars}
 use Rattle.qe_node.specs.Answer.{others, below, with_nodes}
-use Rattle.qe_node.specs.Piece.{is_leaf, is_true_leaf, height_of, by_keys, meaning_of}
+use Rattle.qe_node.specs.Piece.{is_leaf_node, is_true_node, height_of, by_keys, meaning_of}
 use Rattle.qe_node.specs.lemmas.Code.{variables-key}
 
-pub true_is_leaf : (k : List ℕ) → is_true_leaf (sight_of k) ≡ true → is_leaf (sight_of k) ≡ true
+pub true_is_leaf : (k : List ℕ) → is_true_node (sight_of k) ≡ true → is_leaf_node (sight_of k) ≡ true
 true_is_leaf k holds = (both_hold (is_empty (variables_of k)) _ holds).0
 
 -- ---- fewer variables
@@ -82,5 +83,5 @@ descends_at vars f (Some v) is = by (given_by v.0 f 0 (candidates v.0 f))
     by (Ok parts) = each_less (others v.0 vars) (length vars) (fewer v.0 vars (chosen_in f vars v is)) parts
     by (Err s) = tt
 
-pub descends : (k : List ℕ) → is_leaf (sight_of k) ≡ false → Descends height (height k) (meaning_of (sight_of k))
+pub descends : (k : List ℕ) → is_leaf_node (sight_of k) ≡ false → Descends height (height k) (meaning_of (sight_of k))
 descends k inner = descends_at (variables_of k) (form_of k) (choice (form_of k) (as_vars (variables_of k))) refl

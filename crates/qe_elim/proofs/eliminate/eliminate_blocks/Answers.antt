@@ -3,10 +3,10 @@ use Rattle.std.proofs.lemmas.Result.{err_from_is_err_and}
 use Rattle.qe_form.specs.Tree.{tree}
 use Rattle.qe_form.specs.Plain.{IsPlain}
 use Rattle.qe_simp.proofs.Shapes.{simplified_is_plain}
-use Rattle.qe_tree.specs.Block.{prenex}
-use Rattle.qe_tree.proofs.Stands.{Stands}
-use Rattle.qe_elim.specs.Answer.{block_of, blocks_of, IsAnswer}
-use Rattle.qe_elim.proofs.Alone.{IsEliminated, block_distinct, block_more, more_small, block_stops, block_at, blocks_at, stands_for_blocks}
+use Rattle.qe_form.specs.Blocks.{under_blocks}
+use Rattle.qe_tree.proofs.Stands.{Stands, stands_same}
+use Rattle.qe_elim.specs.Answer.{IsAnswer}
+use Rattle.qe_elim.proofs.Alone.{IsEliminated, block_distinct, block_more, more_small, block_stops, block_at}
 use Rattle.qe_elim.proofs.eliminate.eliminate_blocks.Goals as goal
 
 pub eliminate_block-requires-clause-distinct : goal.eliminate_block-requires-clause-distinct
@@ -22,15 +22,15 @@ returns-in_err-form-2-clause-answer c =
     let some = c.loop-left-test.true in
     let fits = c.ranges.limit in
     let exit = err_from_is_err_and c.from_residual-in_err-form-2.result c.from_residual-in_err-form-2.ensures.1 in
-    let bs = blocks_of c.args.prenex.now.blocks.items in
+    let bs = c.args.prenex.now.blocks.items in
     let m = tree c.args.prenex.now.matrix in
     let k = c.loop-left.left - 1 in
     let last : suc k ≡ c.loop-left.left = omega arith in
     let number : k + 1 ≡ suc k = omega arith in
     let few : c.args.limit < 2 ^ 32 = omega arith in
     subst (λ r. IsAnswer c.args.limit bs m r) (sym (exit.1 ∙ ap Err exit.2))
-    (block_stops m c.args.limit few bs k (block_of c.index.result.now) _
-    (blocks_at c.args.prenex.now.blocks.items k c.index.result.now (omega arith) c.index.ensures) (tree c.loop-left.form)
+    (block_stops m c.args.limit few bs k c.index.result.now _
+    (block_at c.args.prenex.now.blocks.items k c.index.result.now (omega arith) c.index.ensures) (tree c.loop-left.form)
     (subst (λ n. IsEliminated m c.args.limit bs n (tree c.loop-left.form)) (sym last) c.loop-left.invariant.done)
     (k + 1) number c.in_err-form-2.field-0.0 c.in_err-form-2.ensures.answer)
 
@@ -39,17 +39,17 @@ loop-left-preserved c =
     let within = c.loop-left.invariant.within in
     let some = c.loop-left-test.true in
     let fits = c.ranges.limit in
-    let bs = blocks_of c.args.prenex.now.blocks.items in
+    let bs = c.args.prenex.now.blocks.items in
     let m = tree c.args.prenex.now.matrix in
     let k = c.loop-left.left - 1 in
     let last : suc k ≡ c.loop-left.left = omega arith in
     let number : k + 1 ≡ suc k = omega arith in
     let few : c.args.limit < 2 ^ 32 = omega arith in
-    let at = blocks_at c.args.prenex.now.blocks.items k c.index.result.now (omega arith) c.index.ensures in
+    let at = block_at c.args.prenex.now.blocks.items k c.index.result.now (omega arith) c.index.ensures in
     let before = subst (λ n. IsEliminated m c.args.limit bs n (tree c.loop-left.form)) (sym last) c.loop-left.invariant.done in
     record {
-      done = block_more m c.args.limit few bs k (block_of c.index.result.now) _ at (tree c.loop-left.form) before (k + 1) number c.in_ok-form-2.form c.in_ok-form-2.ensures.answer c.in_ok-form-2.ensures.ready;
-      small = more_small m c.args.limit few bs k (block_of c.index.result.now) _ at (tree c.loop-left.form) before (k + 1) c.in_ok-form-2.form c.in_ok-form-2.ensures.answer c.in_ok-form-2.ensures.ready c.loop-left.invariant.small;
+      done = block_more m c.args.limit few bs k c.index.result.now _ at (tree c.loop-left.form) before (k + 1) number c.in_ok-form-2.form c.in_ok-form-2.ensures.answer c.in_ok-form-2.ensures.ready;
+      small = more_small m c.args.limit few bs k c.index.result.now _ at (tree c.loop-left.form) before (k + 1) c.in_ok-form-2.form c.in_ok-form-2.ensures.answer c.in_ok-form-2.ensures.ready c.loop-left.invariant.small;
       within = omega arith;
     }
 
@@ -62,4 +62,4 @@ returns-clause-same c =
     let all : c.loop-left.left ≡ 0 = omega arith in
     let items = c.args.prenex.now.blocks.items in
     let m = tree c.args.prenex.now.matrix in
-    stands_for_blocks items m (tree c.loop-left.form) (subst (λ n. Stands (prenex (drop n (blocks_of items)) m) (tree c.loop-left.form)) all c.loop-left.invariant.done.stands)
+    stands_same (under_blocks items m) (tree c.loop-left.form) (subst (λ n. Stands (under_blocks (drop n items) m) (tree c.loop-left.form)) all c.loop-left.invariant.done.stands)

@@ -1,7 +1,7 @@
 use Rattle.std.proofs.Common.{◌∙◌, sym, ap, refl, inl, inr, arith}
 use Rattle.std.proofs.lemmas.List.{length-map}
 use Rattle.qe_form.specs.Tree.{tree}
-use Rattle.qe_tree.specs.Tree.{is_true}
+use Rattle.qe_form.specs.Making.{is_true}
 use Rattle.qe_elim.proofs.Visits.{was_met}
 use Rattle.qe_elim.proofs.search.turn.Goals as goal
 

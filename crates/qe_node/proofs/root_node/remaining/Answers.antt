@@ -1,4 +1,4 @@
-use Rattle.qe_tree.specs.Variables.{occurs}
+use Rattle.qe_form.specs.Measures.{occurs}
 use Rattle.qe_node.proofs.Remaining.{occurs_is, one_more, none_more}
 use Rattle.qe_form.specs.Tree.{tree}
 use Rattle.std.proofs.Common.{length, arith, ◌<◌, ◌∙◌}

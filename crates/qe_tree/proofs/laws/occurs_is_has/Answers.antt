@@ -1,4 +1,4 @@
-use Rattle.qe_tree.proofs.Occurs.{occurs_is_has}
+use Rattle.qe_form.proofs.Occurring.{occurs_is_has}
 use Rattle.qe_tree.proofs.laws.occurs_is_has.Goals as goal
 
 pub returns : goal.returns

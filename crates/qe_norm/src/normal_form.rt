@@ -8,21 +8,23 @@ ghost use Rattle.qe_form.specs.Plain.{IsPlain};
 ghost use Rattle.qe_form.specs.Numbered as input_names;
 ghost use Rattle.qe_form.specs.Preserved.{Preserves, HasDecidedCore};
 ghost use Rattle.qe_form.specs.Holds.{HoldAlike};
-ghost use Rattle.qe_norm.specs.Prenex.{Answers, PrenexAnswers, IsWellNumbered, stands_for};
+ghost use Rattle.qe_norm.specs.Prenex.{Answers, IsPrenexOf, IsWellNumbered, stands_for};
 
+use crate::OutOfMemory;
+use crate::blocks::{NormStop, Prenex};
 use crate::group::group;
-use crate::prenex::{NormStop, Prenex};
-use crate::size::{MOST_COUNTED, size};
+use crate::polarity::Polarity;
+use crate::size::size;
 use crate::walk::{Walk, open};
-use qe_form::{Form, Input, Names};
+use qe_form::{Form, Input, MOST_COUNTED, Names};
 use std::alloc::Global;
 
 /// The prenex form, built in one walk.
-pub fn prenex(alloc: Global, form: &Form, names: Names) -> Result<Prenex, NormStop>
-    ensures { PrenexAnswers (tree form.now) names result }
+fn prenex(alloc: Global, form: &Form, names: Names) -> Result<Prenex, OutOfMemory>
+    ensures { IfOk result (λ p. IsPrenexOf (tree form.now) names p) }
 {
     let mut walk = Walk::new(alloc, names)?;
-    let matrix = open(alloc, &mut walk, form, true)?;
+    let matrix = open(alloc, &mut walk, form, Polarity::Positive)?;
     let blocks = group(alloc, &walk.prefix)?;
     Ok(Prenex {
         blocks,
@@ -39,8 +41,8 @@ pub fn prenex(alloc: Global, form: &Form, names: Names) -> Result<Prenex, NormSt
 /// variables of the input are well numbered, and fewer than 2^31.
 ///
 /// The prenex form holds exactly where the input does. It is true where the input is, and false where that is false. The two are
-/// the same, both ways, where what stands behind the outer quantifiers and negations is true or false at each point, as it is with
-/// excluded middle.
+/// the same, both ways, where the formula behind the outer quantifiers and negations is true or false at each point, as it is
+/// with excluded middle.
 pub fn normal(alloc: Global, input: Input) -> Result<Prenex, NormStop>
     requires numbered { input_names.IsWellNumbered (tree input.form) input.names }
     requires few { length input.names < 2 ^ 31 }
@@ -56,5 +58,5 @@ pub fn normal(alloc: Global, input: Input) -> Result<Prenex, NormStop>
     if size(&form) == MOST_COUNTED {
         return Err(NormStop::TooLarge(MOST_COUNTED));
     }
-    prenex(alloc, &form, names)
+    Ok(prenex(alloc, &form, names)?)
 }

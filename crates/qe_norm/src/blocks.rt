@@ -1,7 +1,8 @@
 //! Blocks of quantifiers, and a formula as blocks with a matrix.
 
 use qe_form::{Form, Names, Sequence, Var};
-use std::alloc::{AllocError, AllocFailed};
+use std::alloc::AllocError;
+use std::marker::Model;
 
 /// Which quantifier.
 #[derive(Clone, Copy, Debug, PartialEq, Eq)]
@@ -15,6 +16,15 @@ pub enum Kind {
 pub struct Block {
     pub kind: Kind,
     pub vars: Sequence<Var>,
+}
+
+impl Model for Block {
+    ghost use Rattle.qe_form.specs.Blocks as blocks;
+    ghost use Rattle.qe_norm.specs.Blocks.{block_of};
+
+    ghost Value = { blocks.Block };
+
+    ghost view = { λ b. block_of b.kind b.vars };
 }
 
 /// A formula as blocks of quantifiers, the outermost first, over a matrix of constants, atoms, And and Or.
@@ -35,22 +45,11 @@ pub enum NormStop {
 
 impl From<AllocError> for NormStop {
     ghost use Rattle.std.specs.Prelude.{◌≡◌};
-    ghost use Rattle.qe_norm.specs.declared.prenex.NormStop.{NormStop};
+    ghost use Rattle.qe_norm.specs.declared.blocks.NormStop.{NormStop};
 
     ghost from_gives = { λ _ e. e ≡ NormStop.OutOfMemory };
 
     fn from(_error: AllocError) -> NormStop {
-        NormStop::OutOfMemory
-    }
-}
-
-impl<T: Drop> From<AllocFailed<T>> for NormStop {
-    ghost use Rattle.std.specs.Prelude.{◌≡◌};
-    ghost use Rattle.qe_norm.specs.declared.prenex.NormStop.{NormStop};
-
-    ghost from_gives = { λ _ e. e ≡ NormStop.OutOfMemory };
-
-    fn from(_error: AllocFailed<T>) -> NormStop {
         NormStop::OutOfMemory
     }
 }

@@ -1,4 +1,6 @@
-use super::*;
+//! Whole reads and writes.
+
+use qe_base::{MemSink, MemSource, read_all, write_all};
 use std::alloc::{AllocError, Global};
 use std::test::Fail;
 
