@@ -10,7 +10,7 @@ use Rattle.qe_form.specs.Same.{IsFree, HasNoQuantifier}
 use Rattle.qe_form.proofs.Occurring.{occurring_is_free}
 use Rattle.qe_simp.specs.Simplified.{simplified}
 use Rattle.qe_simp.specs.Meaning.{Keeps}
-use Rattle.qe_simp.specs.Shape.{IsSimple, IsSimplified, EachAtom, IsCanonical}
+use Rattle.qe_simp.specs.Shape.{IsSimple, IsSimplified, EachAtom, IsCanonicalAtom}
 use Rattle.qe_simp.proofs.Kept.{simplified_keeps}
 use Rattle.qe_simp.proofs.Sizes.{simplified_size}
 use Rattle.qe_simp.proofs.Shapes.{plain_weaker, plain_atoms, plain_no_quantifier, simplified_is, simplified_is_proper, simplified_no_quantifier}
@@ -49,8 +49,8 @@ use Rattle.qe_node.proofs.Tries.{guard_small, substituted_small}
 fine_plain : (f : Formula) → IsFine f → IsPlain f
 fine_plain f h = plain_weaker (λ a. IsPolynomial a.poly) (λ a. Unit {0}) (λ a k. tt) f h
 
-fine_atoms : (f : Formula) → IsFine f → EachAtom IsCanonical f
-fine_atoms f h = plain_atoms IsCanonical f h
+fine_atoms : (f : Formula) → IsFine f → EachAtom IsCanonicalAtom f
+fine_atoms f h = plain_atoms IsCanonicalAtom f h
 
 pub simplified_fine : (f : Formula) → IsSimplified f → IsFine f
 simplified_fine f h = plain_weaker IsSimple (λ a. IsPolynomial a.poly) (λ a k. k.primitive.canonical) f h.simple
