@@ -3,6 +3,9 @@ use Rattle.std.proofs.Common.{ℕ, ◌≡◌, ◌≢◌, ◌∙◌, sym, ap, ref
 use Rattle.std.specs.Option.{option_map}
 use Rattle.std.proofs.lemmas.Bool.{eqb-true}
 use Rattle.std.proofs.lemmas.List.{map-append, reverse-append}
+use Rattle.qe_halt.specs.declared.halt.Halt.{Halt}
+use Rattle.qe_halt.specs.declared.halt.Halt.TheVariants as stop
+use Rattle.qe_halt.specs.Outcome.{or_else}
 use Rattle.qe_form.specs.Formula.{Formula}
 use Rattle.qe_form.specs.Measures.{Has}
 use Rattle.qe_form.specs.Measures.{occurs}
@@ -16,42 +19,14 @@ use Rattle.qe_tree.proofs.Searching.{forms, forms-append, walks, children, Searc
 use Rattle.qe_tree.proofs.Ends as tree_ends
 use Rattle.qe_node.specs.declared.stop.NodeStop.{NodeStop}
 use Rattle.qe_node.specs.Successors.{expansion}
-use Rattle.qe_node.specs.Answer.{others}
-use Rattle.qe_elim.specs.declared.search.SearchStop.{SearchStop}
-use Rattle.qe_elim.specs.declared.search.SearchStop.TheVariants as stop
+use Rattle.qe_node.proofs.Remaining.{left_of_successor}
+use Rattle.qe_elim.specs.declared.search.TooManyNodes.{TooManyNodes}
 use Rattle.qe_form.specs.Tree.{tree}
 use Rattle.qe_elim.specs.declared.step.Waiting.{Waiting}
 use Rattle.qe_elim.specs.declared.step.Fault.{Fault}
 use Rattle.qe_elim.specs.declared.search.Visited.{Visited}
 use Rattle.qe_elim.specs.declared.search.Ended.TheVariants as ended
-use Rattle.qe_elim.specs.Search.{steps_of, Entry, entry_of, entries, State, fault_of, state_of, leaf_of, failure_at, entry_at, entries_below, or_else, visited, IsTurn, IsEnd}
-
--- ---- what is left of the variables of a successor
-
-left_twice : (p q r : ℕ → Bool) → ((y : ℕ) → p y ≡ true → (q y ≡ true) × (r y ≡ true)) → (xs : List ℕ) → filter p (filter q (filter r xs)) ≡ filter p xs
-left_twice p q r passes [] = refl
-left_twice p q r passes (x ∷ xs) = by_tests (left_twice p q r passes xs) (p x) (r x) (q x) refl refl refl
-  where
-    rest : List ℕ
-    rest = filter r xs
-
-    by_tests : filter p (filter q rest) ≡ filter p xs → (a b c : Bool) → p x ≡ a → r x ≡ b → q x ≡ c → filter p (filter q (cond b (x ∷ rest) rest)) ≡ cond a (x ∷ filter p xs) (filter p xs)
-    by_tests again true true true e k l = ap (λ t. filter p (cond t (x ∷ filter q rest) (filter q rest))) l ∙ (ap (λ t. cond t (x ∷ filter p (filter q rest)) (filter p (filter q rest))) e ∙ ap (λ ys. x ∷ ys) again)
-    by_tests again true true false e k l = absurd (let w = (passes x e).0 in cc)
-    by_tests again true false c e k l = absurd (let w = (passes x e).1 in cc)
-    by_tests again false true true e k l = ap (λ t. filter p (cond t (x ∷ filter q rest) (filter q rest))) l ∙ (ap (λ t. cond t (x ∷ filter p (filter q rest)) (filter p (filter q rest))) e ∙ again)
-    by_tests again false true false e k l = ap (λ t. filter p (cond t (x ∷ filter q rest) (filter q rest))) l ∙ again
-    by_tests again false false c e k l = again
-
-left_of_successor : (vars : List ℕ) (f g : Formula) (x : ℕ) → ((y : ℕ) → Has y g → Has y f × (y ≢ x)) → remaining (others x (remaining vars f)) g ≡ remaining vars g
-left_of_successor vars f g x fewer = left_twice (λ y. occurs y g) (λ y. not (eqb y x)) (λ y. occurs y f) passes vars
-  where
-    other : (y : ℕ) → y ≢ x → (b : Bool) → eqb y x ≡ b → not b ≡ true
-    other y apart true e = absurd (apart (eqb-true y x e))
-    other y apart false e = refl
-
-    passes : (y : ℕ) → occurs y g ≡ true → (not (eqb y x) ≡ true) × (occurs y f ≡ true)
-    passes y e = let w = fewer y ((occurs_is_has y g).0 e) in (other y w.1 (eqb y x) refl, (occurs_is_has y f).1 w.0)
+use Rattle.qe_elim.specs.Search.{steps_of, Entry, entry_of, entries, SearchState, fault_of, state_of, leaf_of, failure_at, entry_at, entries_below, visited, IsTurn, IsEnd}
 
 module _ (Good : Formula → Type 0) (sound : IsSound Good expansion) (vars : List ℕ) where
   -- the node of a place
@@ -59,7 +34,7 @@ module _ (Good : Formula → Type 0) (sound : IsSound Good expansion) (vars : Li
   entry t = record { path = t.path; node = record { vars = remaining vars t.form; form = t.form } }
 
   -- the search has come by some places, and the nodes that wait are those of others
-  pub record IsSearched (root : Formula) (limit : ℕ) (s : State) : Type 0 where
+  pub record IsSearched (root : Formula) (limit : ℕ) (s : SearchState) : Type 0 where
     pub done : List Place
     pub todo : List Place
     pub search : Searching Good expansion sound vars root done todo
@@ -71,10 +46,10 @@ module _ (Good : Formula → Type 0) (sound : IsSound Good expansion) (vars : Li
     pub few : length done ≤ limit
 
   -- the state before a node was taken from those that wait
-  abbrev pub before : Entry → State → State
+  abbrev pub before : Entry → SearchState → SearchState
   before e s = record { met = s.met; leaves = s.leaves; fault = s.fault; waiting = e ∷ s.waiting }
 
-  pub start_searched : (root : Formula) (limit : ℕ) → Good root → (s : State) → s.met ≡ [] → s.leaves ≡ [] → s.fault ≡ None → s.waiting ≡ entry (record { path = []; form = root }) ∷ [] → IsSearched root limit s
+  pub start_searched : (root : Formula) (limit : ℕ) → Good root → (s : SearchState) → s.met ≡ [] → s.leaves ≡ [] → s.fault ≡ None → s.waiting ≡ entry (record { path = []; form = root }) ∷ [] → IsSearched root limit s
   start_searched root limit good s met leaves fault waiting = record {
     done = [];
     todo = record { path = []; form = root } ∷ [];
@@ -90,7 +65,7 @@ module _ (Good : Formula → Type 0) (sound : IsSound Good expansion) (vars : Li
   -- ---- the node that is taken
 
   -- it is that of the next place
-  record IsTaken (root : Formula) (limit : ℕ) (e : Entry) (s : State) : Type 0 where
+  record IsTaken (root : Formula) (limit : ℕ) (e : Entry) (s : SearchState) : Type 0 where
     done : List Place
     place : Place
     todo : List Place
@@ -103,7 +78,7 @@ module _ (Good : Formula → Type 0) (sound : IsSound Good expansion) (vars : Li
     none : has_true_leaf expansion vars done ≡ false
     few : length done ≤ limit
 
-  taken : (root : Formula) (limit : ℕ) (e : Entry) (s : State) → IsSearched root limit (before e s) → IsTaken root limit e s
+  taken : (root : Formula) (limit : ℕ) (e : Entry) (s : SearchState) → IsSearched root limit (before e s) → IsTaken root limit e s
   taken root limit e s w = by_todo w.todo w.search w.waiting
     where
       by_todo : (todo : List Place) → Searching Good expansion sound vars root w.done todo → e ∷ s.waiting ≡ map entry todo → IsTaken root limit e s
@@ -122,7 +97,7 @@ module _ (Good : Formula → Type 0) (sound : IsSound Good expansion) (vars : Li
         few = w.few;
       }
 
-  module _ (root : Formula) (limit : ℕ) (e : Entry) (s : State) (w : IsTaken root limit e s) where
+  module _ (root : Formula) (limit : ℕ) (e : Entry) (s : SearchState) (w : IsTaken root limit e s) where
     form_is : e.node.form ≡ w.place.form
     form_is = ap (λ d. d.node.form) w.own
 
@@ -217,15 +192,15 @@ module _ (Good : Formula → Type 0) (sound : IsSound Good expansion) (vars : Li
 
   -- ---- a turn
 
-  pub turn_goes_on : (root : Formula) (limit : ℕ) (e : Entry) (old new : State) → IsSearched root limit (before e old) → IsTurn limit e old new (Ok false) → IsSearched root limit new
+  pub turn_goes_on : (root : Formula) (limit : ℕ) (e : Entry) (old new : SearchState) → IsSearched root limit (before e old) → IsTurn limit e old new (Ok false) → IsSearched root limit new
   turn_goes_on root limit e old new w (inl t) = subst (IsSearched root limit) (sym t.1) (skipped root limit e old (taken root limit e old w) t.0)
   turn_goes_on root limit e old new w (inr t) = subst (IsSearched root limit) (sym t.3) (visited_searched root limit e old (taken root limit e old w) t.0 t.1 t.2)
 
-  pub turn_finds : (root : Formula) (limit : ℕ) (e : Entry) (old new : State) → IsSearched root limit (before e old) → IsTurn limit e old new (Ok true) → has_true_leaf expansion vars (nodes expansion vars root) ≡ true
+  pub turn_finds : (root : Formula) (limit : ℕ) (e : Entry) (old new : SearchState) → IsSearched root limit (before e old) → IsTurn limit e old new (Ok true) → has_true_leaf expansion vars (nodes expansion vars root) ≡ true
   turn_finds root limit e old new w t = true_found root limit e old (taken root limit e old w) t.0 t.2
 
-  pub turn_stops : (root : Formula) (limit : ℕ) (e : Entry) (old new : State) → IsSearched root limit (before e old) → IsTurn limit e old new (Err stop.Limit) → limit < length (nodes expansion vars root)
-  turn_stops root limit e old new w t = limit_met root limit e old (taken root limit e old w) t.0 t.1
+  pub turn_stops : (root : Formula) (limit : ℕ) (many : TooManyNodes) (e : Entry) (old new : SearchState) → IsSearched root limit (before e old) → IsTurn limit e old new (Err (stop.Limit many)) → limit < length (nodes expansion vars root)
+  turn_stops root limit many e old new w t = limit_met root limit e old (taken root limit e old w) t.0 t.1
 
   -- ---- what is left
 
@@ -244,7 +219,7 @@ module _ (Good : Formula → Type 0) (sound : IsSound Good expansion) (vars : Li
   over_is es todo same = ap (λ ps. length (walks Good expansion sound vars ps)) (ap (map place_of) same ∙ places_back todo)
 
   -- the same state, that of one end of the turn
-  pub turn_shrinks : (root : Formula) (limit : ℕ) (e : Entry) (old new : State) → IsSearched root limit (before e old) → IsTurn limit e old new (Ok false) → left_over new.waiting < left_over (e ∷ old.waiting)
+  pub turn_shrinks : (root : Formula) (limit : ℕ) (e : Entry) (old new : SearchState) → IsSearched root limit (before e old) → IsTurn limit e old new (Ok false) → left_over new.waiting < left_over (e ∷ old.waiting)
   turn_shrinks root limit e old new w turn = by_turn turn
     where
       t : IsTaken root limit e old
@@ -263,13 +238,13 @@ module _ (Good : Formula → Type 0) (sound : IsSound Good expansion) (vars : Li
 
   -- ---- the end
 
-  pub record IsWhole (root : Formula) (limit : ℕ) (s : State) : Type 0 where
+  pub record IsWhole (root : Formula) (limit : ℕ) (s : SearchState) : Type 0 where
     pub leaves : leaves expansion vars (nodes expansion vars root) ≡ s.leaves
     pub fault : first_failure expansion vars (nodes expansion vars root) ≡ s.fault
     pub none : has_true_leaf expansion vars (nodes expansion vars root) ≡ false
     pub few : length (nodes expansion vars root) ≤ limit
 
-  pub searched_whole : (root : Formula) (limit : ℕ) (s : State) → IsSearched root limit s → s.waiting ≡ [] → IsWhole root limit s
+  pub searched_whole : (root : Formula) (limit : ℕ) (s : SearchState) → IsSearched root limit s → s.waiting ≡ [] → IsWhole root limit s
   searched_whole root limit s w gone = by_todo w.todo w.search (sym w.waiting ∙ gone)
     where
       by_todo : (todo : List Place) → Searching Good expansion sound vars root w.done todo → map entry todo ≡ [] → IsWhole root limit s
@@ -286,8 +261,8 @@ module _ (Good : Formula → Type 0) (sound : IsSound Good expansion) (vars : Li
   -- ---- as the code's steps say it
 
   -- a node was taken from those that wait
-  pub turn_ends : (root : Formula) (limit : ℕ) (e : Entry) (old new : State) (f : SearchStop) → IsSearched root limit (before e old) → IsTurn limit e old new (Err f) → IsEnd vars root limit (Err f)
-  turn_ends root limit e old new stop.Limit w t = turn_stops root limit e old new w t
+  pub turn_ends : (root : Formula) (limit : ℕ) (e : Entry) (old new : SearchState) (f : Halt TooManyNodes) → IsSearched root limit (before e old) → IsTurn limit e old new (Err f) → IsEnd vars root limit (Err f)
+  turn_ends root limit e old new (stop.Limit many) w t = turn_stops root limit many e old new w t
   turn_ends root limit e old new stop.OutOfMemory w t = tt
 
 -- ---- the nodes that wait, as the code keeps them

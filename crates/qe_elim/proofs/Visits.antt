@@ -15,7 +15,8 @@ use Rattle.qe_tree.proofs.Walks.{with_step}
 use Rattle.qe_piece.specs.declared.maker.Next.{Next}
 use Rattle.qe_node.specs.Node.{Sight}
 use Rattle.qe_node.specs.Successors.{expansion}
-use Rattle.qe_node.specs.Answer.{others, below, shown}
+use Rattle.qe_node.specs.Answer.{others, below, numbered_nodes}
+use Rattle.qe_elim.proofs.Growths.{GrownAt}
 use Rattle.qe_elim.specs.Search.{entry_below, entry_at, entries_below}
 
 -- ---- the formulas that were met
@@ -38,9 +39,9 @@ met_more f k old new form apart is =
 
 -- ---- the successors that wait
 
-below_shown : (path : List Step) (x : ℕ) (made : List (Next Sight)) → map (entry_below path x) made ≡ map (λ d. record { path = path ++ record { var = x; point = d.0 } ∷ []; node = d.1 }) (shown made)
-below_shown path x [] = refl
-below_shown path x (s ∷ made) = ap (λ es. entry_below path x s ∷ es) (below_shown path x made)
+below_numbered : (path : List Step) (x : ℕ) (made : List (Next Sight)) → map (entry_below path x) made ≡ map (λ d. record { path = path ++ record { var = x; point = d.0 } ∷ []; node = d.1 }) (numbered_nodes made)
+below_numbered path x [] = refl
+below_numbered path x (s ∷ made) = ap (λ es. entry_below path x s ∷ es) (below_numbered path x made)
 
 below_parts : (path : List Step) (n : Sight) (x : ℕ) (parts : List (ℕ × Formula))
     → map (λ d. record { path = path ++ record { var = x; point = d.0 } ∷ []; node = d.1 }) (below (others x n.vars) parts) ≡ map (entry_at (record { path = path; node = n })) (map (with_step x) parts)
@@ -55,10 +56,10 @@ not_leaf l vs is some ss = ap (λ ys. unless_leaf ys [] ss) is ∙ by_list vs so
     by_list (v ∷ us) none = refl
 
 pub successors_wait : (path : List Step) (n : Sight) (vs : List Var) → n.vars ≡ map (λ v. v.0) vs → eqb (length vs) 0 ≡ false → (x : Var) (made : List (Next Sight))
-    → ((parts : List (ℕ × Formula)) × ((expansion n.vars n.form ≡ successors x.0 parts) × (shown made ≡ below (others x.0 n.vars) parts)))
+    → GrownAt n x (numbered_nodes made)
     → map (entry_below path x.0) made ≡ entries_below (record { path = path; node = n })
 successors_wait path n vs is some x made w =
-    below_shown path x.0 made
+    below_numbered path x.0 made
     ∙ (ap (map (λ d. record { path = path ++ record { var = x.0; point = d.0 } ∷ []; node = d.1 })) w.1.1
     ∙ (below_parts path n x.0 w.0
     ∙ ap (map (entry_at (record { path = path; node = n }))) (sym (not_leaf n.vars vs is some (grown (expansion n.vars n.form)) ∙ ap grown w.1.0))))

@@ -12,7 +12,7 @@ ghost use Rattle.qe_elim.specs.Answer.{IsBlock};
 
 use crate::OutOfMemory;
 use crate::eliminate::ElimStop;
-use crate::search::{Ended, SearchStop, search};
+use crate::search::{Ended, SearchStop, TooManyNodes, search};
 use qe_form::{Form, Sequence};
 use qe_norm::{Block, Kind};
 use qe_simp::simplify;
@@ -71,7 +71,7 @@ pub fn eliminate_block(
             path: fault.path,
             stop: fault.stop,
         }),
-        Err(SearchStop::Limit) => Err(ElimStop::NodeLimit {
+        Err(SearchStop::Limit(TooManyNodes)) => Err(ElimStop::NodeLimit {
             block: number,
             limit,
         }),

@@ -2,28 +2,20 @@
 
 ghost use Rattle.std.specs.Prelude.{◌≡◌, ◌≢◌, ◌≤◌, ◌<◌, ◌^◌, ◌++◌, length, map, false, OnOk, AllPairs};
 ghost use Rattle.std.specs.Option.{option_map};
+ghost use Rattle.qe_halt.specs.Outcome.{or_else};
 ghost use Rattle.qe_form.specs.Tree.{tree};
 ghost use Rattle.qe_tree.specs.Tree.{is_among};
 ghost use Rattle.qe_form.specs.Measures.{count};
 ghost use Rattle.qe_simp.specs.Shape.{IsSimplified};
-ghost use Rattle.qe_elim.specs.Search.{steps_of, fault_of, entry_of, entries, entry_below, IsGrowth, leaf_of, failure_at, entries_below, or_else, state_of, visited, IsTurn, IsEnd};
+ghost use Rattle.qe_elim.specs.Search.{steps_of, fault_of, entry_of, entries, entry_below, leaf_of, failure_at, entries_below, state_of, visited, IsTurn, IsEnd};
 
 use crate::OutOfMemory;
 use crate::step::{Fault, Step, Waiting};
 use indexmap::IndexSet;
 use qe_form::{Form, Var};
-use qe_node::{Made, Next, Node, NodeStop, root, successors};
-use qe_points::choose;
-use std::alloc::{AllocError, AllocFailed, Global};
-
-/// What becomes of a node.
-#[derive(Drop)]
-enum Growth {
-    /// The variable that is eliminated, and the successors.
-    Grown(Var, Vec<Next<Node>>),
-    /// The node fails.
-    Failed(NodeStop),
-}
+use qe_halt::Halt;
+use qe_node::{GrowthLimit, GrowthStop, Never, Next, Node, grow, root};
+use std::alloc::Global;
 
 /// What was visited: the formulas that were met in their order, those of leaves among them, and the first node that fails.
 #[derive(Drop)]
@@ -44,49 +36,12 @@ pub enum Ended {
     Leaves(Vec<Form>),
 }
 
-/// Why a search does not end.
+/// One more distinct node would pass the limit.
 #[derive(Clone, Copy, Debug, PartialEq, Eq)]
-pub enum SearchStop {
-    /// One more distinct node would pass the limit.
-    Limit,
-    OutOfMemory,
-}
+pub struct TooManyNodes;
 
-impl From<AllocError> for SearchStop {
-    ghost use Rattle.std.specs.Prelude.{◌≡◌};
-    ghost use Rattle.qe_elim.specs.declared.search.SearchStop.{SearchStop};
-
-    ghost from_gives = { λ _ e. e ≡ SearchStop.OutOfMemory };
-
-    fn from(_error: AllocError) -> SearchStop {
-        SearchStop::OutOfMemory
-    }
-}
-
-impl<T: Drop> From<AllocFailed<T>> for SearchStop {
-    ghost use Rattle.std.specs.Prelude.{◌≡◌};
-    ghost use Rattle.qe_elim.specs.declared.search.SearchStop.{SearchStop};
-
-    ghost from_gives = { λ _ e. e ≡ SearchStop.OutOfMemory };
-
-    fn from(_error: AllocFailed<T>) -> SearchStop {
-        SearchStop::OutOfMemory
-    }
-}
-
-/// The successors of a node, with the variable that is eliminated.
-fn grow(alloc: Global, node: &Node) -> Result<Growth, OutOfMemory>
-    ensures { IsGrowth node.now result }
-{
-    match successors(alloc, node) {
-        Made::Successors(list) => match choose(&node.form, node.vars.items()) {
-            Some(var) => Ok(Growth::Grown(var, list)),
-            None => Ok(Growth::Failed(NodeStop::DegreeExcess)),
-        },
-        Made::Failed(stop) => Ok(Growth::Failed(stop)),
-        Made::Stopped | Made::OutOfMemory => Err(OutOfMemory),
-    }
-}
+/// Why a search does not end.
+pub type SearchStop = Halt<TooManyNodes>;
 
 /// Puts successors before the nodes that wait, with the steps to them.
 fn wait_for(
@@ -130,14 +85,21 @@ fn branch(
         leaves.push(node.form.copy(alloc)?)?;
         return Ok(());
     }
-    match grow(alloc, node)? {
-        Growth::Failed(stop) => {
+    match grow(alloc, node, &mut Never) {
+        Ok(grown) => wait_for(
+            alloc,
+            waiting,
+            path.as_slice(),
+            grown.var,
+            grown.successors,
+        ),
+        Err(GrowthStop::Limit(GrowthLimit::Failed(stop))) => {
             if fault.is_none() {
                 *fault = Some(Fault { path, stop });
             }
             Ok(())
         }
-        Growth::Grown(var, list) => wait_for(alloc, waiting, path.as_slice(), var, list),
+        Err(GrowthStop::Limit(GrowthLimit::Stopped) | GrowthStop::OutOfMemory) => Err(OutOfMemory),
     }
 }
 
@@ -180,7 +142,7 @@ fn turn(
         return Ok(false);
     }
     if seen.met.len() >= limit as usize {
-        return Err(SearchStop::Limit);
+        return Err(SearchStop::Limit(TooManyNodes));
     }
     if node.form.is_true() {
         return Ok(true);

@@ -1,5 +1,5 @@
 pub mod Remaining
-pub mod Grown
+pub mod Candidates
 pub mod Canonical
 pub mod Tries
 pub mod Growing

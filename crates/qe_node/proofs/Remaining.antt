@@ -15,7 +15,7 @@ use Rattle.qe_tree.specs.Variables.{remaining}
 use Rattle.qe_form.proofs.Occurring.{occurs_is_has}
 use Rattle.qe_node.specs.Node.{IsNode}
 use Rattle.qe_node.specs.Answer.{others}
-use Rattle.qe_node.specs.PieceLaws.{at_most}
+use Rattle.qe_node.specs.lemmas.Piece.{filtered_short}
 
 -- the numbers of variables
 abbrev pub numbers : List Var → List ℕ
@@ -92,7 +92,7 @@ node_of vs f left g is same distinct short proper small =
     subst (λ xs. IsNode (record { vars = xs; form = g })) (sym is) (subst (λ h. IsNode (record { vars = remaining (numbers vs) f; form = h })) (sym same)
     (record {
       distinct = AllPairs-filter (λ x y. x ≢ y) (λ x. occurs x f) (numbers vs) distinct;
-      short = let most = at_most (λ x. occurs x f) (numbers vs) in let all = length-numbers vs in omega arith;
+      short = let most = filtered_short (λ x. occurs x f) (numbers vs) in let all = length-numbers vs in omega arith;
       occurring = filter-again (λ x. occurs x f) (numbers vs);
       proper = proper;
       small = small;
@@ -101,7 +101,7 @@ node_of vs f left g is same distinct short proper small =
 -- no more variables are left of those other than one
 pub others_short : (x : ℕ) (vars left : List Var) → numbers left ≡ others x (numbers vars) → length vars ≤ 65536 → length left ≤ 65536
 others_short x vars left is short =
-    let most = at_most (λ y. not (eqb y x)) (numbers vars) in
+    let most = filtered_short (λ y. not (eqb y x)) (numbers vars) in
     let few : length (numbers left) ≡ length (others x (numbers vars)) = ap length is in
     let of_left = length-numbers left in
     let of_vars = length-numbers vars in

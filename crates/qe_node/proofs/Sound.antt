@@ -10,7 +10,7 @@ use Rattle.qe_form.specs.Same.{IsFree, HasNoQuantifier}
 use Rattle.qe_form.proofs.Occurring.{occurring_is_free}
 use Rattle.qe_simp.specs.Simplified.{simplified}
 use Rattle.qe_simp.specs.Meaning.{Keeps}
-use Rattle.qe_simp.specs.Shape.{IsSimple, IsSimplified, EachAtom, IsCanonical}
+use Rattle.qe_simp.specs.Shape.{IsSimple, IsSimplified, EachAtom, IsCanonicalAtom}
 use Rattle.qe_simp.proofs.Kept.{simplified_keeps}
 use Rattle.qe_simp.proofs.Sizes.{simplified_size}
 use Rattle.qe_simp.proofs.Shapes.{plain_weaker, plain_atoms, plain_no_quantifier, simplified_is, simplified_is_proper, simplified_no_quantifier}
@@ -36,11 +36,11 @@ use Rattle.qe_tree.specs.Expanded.{successors}
 use Rattle.qe_tree.specs.Sound as tree
 use Rattle.qe_tree.specs.Sound.{Each, IsIn, IsFine, forms_of, IsGrown}
 use Rattle.qe_node.specs.declared.stop.NodeStop.{NodeStop}
-use Rattle.qe_node.specs.PieceLaws.{chosen_in}
-use Rattle.qe_node.specs.Successors.{given_by, at_variable, at_choice, variables, expansion}
+use Rattle.qe_node.specs.lemmas.Piece.{chosen_in}
+use Rattle.qe_node.specs.Successors.{given_by, at_variable, at_choice, as_vars, expansion}
 use Rattle.qe_node.proofs.Canonical.{IsOverPolynomial, substituted_fine, point_fine, guard_of_fine}
 use Rattle.qe_node.proofs.Fine.{atoms_fine, candidates_fine}
-use Rattle.qe_node.proofs.Grown.{IsUsable, at_candidate, successor, told, each_given}
+use Rattle.qe_node.proofs.Candidates.{IsUsable, at_candidate, successor, told, each_given}
 use Rattle.qe_node.proofs.Tries.{guard_small, substituted_small}
 
 -- ---- fine formulas
@@ -48,8 +48,8 @@ use Rattle.qe_node.proofs.Tries.{guard_small, substituted_small}
 fine_plain : (f : Formula) → IsFine f → IsPlain f
 fine_plain f h = plain_weaker (λ a. IsPolynomial a.poly) (λ a. Unit {0}) (λ a k. tt) f h
 
-fine_atoms : (f : Formula) → IsFine f → EachAtom IsCanonical f
-fine_atoms f h = plain_atoms IsCanonical f h
+fine_atoms : (f : Formula) → IsFine f → EachAtom IsCanonicalAtom f
+fine_atoms f h = plain_atoms IsCanonicalAtom f h
 
 pub simplified_fine : (f : Formula) → IsSimplified f → IsFine f
 simplified_fine f h = plain_weaker IsSimple (λ a. IsPolynomial a.poly) (λ a k. k.primitive.canonical) f h.simple
@@ -169,13 +169,13 @@ module _ (x : ℕ) (f : Formula) (fine : IsFine f) (proper : IsPlainAndProper f)
         ((λ t. some.1 (all.0 t)), (λ t. all.1 (some.0 t)));
   }
 
-at_choice_grown : (vars : List ℕ) (f : Formula) → IsFine f → IsPlainAndProper f → (o : Option Var) → choice f (variables vars) ≡ o → (x : ℕ) (parts : List (ℕ × Formula))
+at_choice_grown : (vars : List ℕ) (f : Formula) → IsFine f → IsPlainAndProper f → (o : Option Var) → choice f (as_vars vars) ≡ o → (x : ℕ) (parts : List (ℕ × Formula))
     → at_choice f o ≡ successors x parts → IsGrown IsSimplified vars f x parts
 at_choice_grown vars f fine proper None chosen x parts is = absurd (cc)
 at_choice_grown vars f fine proper (Some v) chosen x parts is = by_result (given_by v.0 f 0 (candidates v.0 f)) refl is
   where
     low : degree v.0 f ≤ 2
-    low = let h : IfSome (Some v) (λ u. IsOneOf u (variables vars) × (degree u.0 f ≤ 2)) = subst (λ o. IfSome o (λ u. IsOneOf u (variables vars) × (degree u.0 f ≤ 2))) chosen (choice_is f (variables vars)) in h.1
+    low = let h : IfSome (Some v) (λ u. IsOneOf u (as_vars vars) × (degree u.0 f ≤ 2)) = subst (λ o. IfSome o (λ u. IsOneOf u (as_vars vars) × (degree u.0 f ≤ 2))) chosen (choice_is f (as_vars vars)) in h.1
 
     by_result : (r : Result (List (ℕ × Formula)) NodeStop) → given_by v.0 f 0 (candidates v.0 f) ≡ r → at_variable v.0 r ≡ successors x parts → IsGrown IsSimplified vars f x parts
     by_result (Ok ps) given same =
@@ -186,7 +186,7 @@ at_choice_grown vars f fine proper (Some v) chosen x parts is = by_result (given
 
 -- the successors of a node are grown from it
 pub expansion_grown : (vars : List ℕ) (f : Formula) → IsFine f → IsPlainAndProper f → (x : ℕ) (parts : List (ℕ × Formula)) → expansion vars f ≡ successors x parts → IsGrown IsSimplified vars f x parts
-expansion_grown vars f fine proper x parts is = at_choice_grown vars f fine proper (choice f (variables vars)) refl x parts is
+expansion_grown vars f fine proper x parts is = at_choice_grown vars f fine proper (choice f (as_vars vars)) refl x parts is
 
 -- the expansion of nodes is sound: of a simplified formula come simplified ones
 pub expansion_sound : tree.IsSound IsSimplified expansion

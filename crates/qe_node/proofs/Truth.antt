@@ -17,37 +17,37 @@ use Rattle.qe_piece.specs.declared.maker.Next.{Next}
 use Rattle.qe_node.specs.declared.stop.NodeStop.{NodeStop}
 use Rattle.qe_node.specs.Node.{Sight, IsNode}
 use Rattle.qe_node.specs.Successors.{expansion}
-use Rattle.qe_node.specs.Answer.{others, below, shown, outcome_of, outcome}
-use Rattle.qe_node.specs.Truth.{quantified}
+use Rattle.qe_node.specs.Answer.{others, below, numbered_nodes, with_nodes, expansion_of}
+use Rattle.qe_node.specs.Truth.{existential, TruthIsKept}
 use Rattle.qe_node.proofs.Remaining.{numbers, left_of_successor}
 use Rattle.qe_node.proofs.Tries.{proper_plain}
 use Rattle.qe_node.proofs.Sound.{expansion_grown}
 
--- the formulas of nodes under `ex`, by the successors as they are shown
-shown_wholes : (list : List (Next Sight)) → map (λ s. quantified s.1) (shown list) ≡ map (λ s. quantified s.piece) list
-shown_wholes [] = refl
-shown_wholes (n ∷ list) = ap (λ fs. quantified n.piece ∷ fs) (shown_wholes list)
+-- the formulas of nodes under `ex`, with the numbers of the nodes and without
+numbered_wholes : (list : List (Next Sight)) → map (λ s. existential s.1) (numbered_nodes list) ≡ map (λ s. existential s.piece) list
+numbered_wholes [] = refl
+numbered_wholes (n ∷ list) = ap (λ fs. existential n.piece ∷ fs) (numbered_wholes list)
 
 module _ (vars : List ℕ) (f : Formula) (occurring : remaining vars f ≡ vars) (x : ℕ) where
   below_wholes : (parts : List (ℕ × Formula)) → Each (λ g. (y : ℕ) → Has y g → Has y f × (y ≢ x)) (forms_of parts)
-      → map (λ s. quantified s.1) (below (others x vars) parts) ≡ map (existential_closure vars) (forms_of parts)
+      → map (λ s. existential s.1) (below (others x vars) parts) ≡ map (existential_closure vars) (forms_of parts)
   below_wholes [] fewer = refl
   below_wholes (s ∷ parts) fewer =
       let left : remaining (others x vars) s.1 ≡ remaining vars s.1 = ap (λ xs. remaining (others x xs) s.1) (sym occurring) ∙ left_of_successor vars f s.1 x fewer.0 in
       λ i. under_ex (left i) s.1 ∷ below_wholes parts fewer.1 i
 
-  grown_true : (parts : List (ℕ × Formula)) (list : List (Next Sight)) → IsFine f → IsGrown IsSimplified vars f x parts → below (others x vars) parts ≡ shown list
-      → (p : Point) → IsPoint p → Is (under_ex vars f) true p ↔ Is (Or (trees_of (map (λ s. quantified s.piece) list))) true p
+  grown_true : (parts : List (ℕ × Formula)) (list : List (Next Sight)) → IsFine f → IsGrown IsSimplified vars f x parts → below (others x vars) parts ≡ numbered_nodes list
+      → (p : Point) → IsPoint p → Is (under_ex vars f) true p ↔ Is (Or (trees_of (map (λ s. existential s.piece) list))) true p
   grown_true parts list fine grown is =
-      subst (λ fs. (p : Point) → IsPoint p → Is (under_ex vars f) true p ↔ Is (Or (trees_of fs)) true p) (sym (below_wholes parts grown.fewer) ∙ (ap (map (λ s. quantified s.1)) is ∙ shown_wholes list))
+      subst (λ fs. (p : Point) → IsPoint p → Is (under_ex vars f) true p ↔ Is (Or (trees_of fs)) true p) (sym (below_wholes parts grown.fewer) ∙ (ap (map (λ s. existential s.1)) is ∙ numbered_wholes list))
       (subst (λ xs. (p : Point) → IsPoint p → Is (under_ex xs f) true p ↔ Is (Or (trees_of (map (existential_closure vars) (forms_of parts)))) true p) occurring
       (grown_keeps_truth IsSimplified simplified_no_quantifier vars f (fine_no_quantifier f fine) x parts (subst (λ xs. IsGrown IsSimplified xs f x parts) (sym occurring) grown)))
 
--- the successors that are the outcome of a node keep its truth
+-- the successors of a node keep its truth
 pub successors_true : (vs : List Var) (f : Formula) (n : Sight) (list : List (Next Sight)) → record { vars = numbers vs; form = f } ≡ n → IsNode (record { vars = numbers vs; form = f }) → (IsPlain f → IsFine f)
-    → outcome n ≡ Ok (shown list) → (p : Point) → IsPoint p → Is (quantified n) true p ↔ Is (Or (trees_of (map (λ s. quantified s.piece) list))) true p
+    → expansion_of n ≡ Ok (numbered_nodes list) → TruthIsKept n list
 successors_true vs f n list view node fine is =
-    subst (λ m. outcome m ≡ Ok (shown list) → (p : Point) → IsPoint p → Is (quantified m) true p ↔ Is (Or (trees_of (map (λ s. quantified s.piece) list))) true p) view (by_expanded (expansion vars f) refl) is
+    subst (λ m. expansion_of m ≡ Ok (numbered_nodes list) → TruthIsKept m list) view (by_expanded (expansion vars f) refl) is
   where
     vars : List ℕ
     vars = numbers vs
@@ -55,7 +55,7 @@ successors_true vs f n list view node fine is =
     canonical : IsFine f
     canonical = fine (proper_plain f node.proper)
 
-    by_expanded : (e : Expanded NodeStop) → expansion vars f ≡ e → outcome_of vars e ≡ Ok (shown list)
-        → (p : Point) → IsPoint p → Is (under_ex vars f) true p ↔ Is (Or (trees_of (map (λ s. quantified s.piece) list))) true p
+    by_expanded : (e : Expanded NodeStop) → expansion vars f ≡ e → with_nodes vars e ≡ Ok (numbered_nodes list)
+        → (p : Point) → IsPoint p → Is (under_ex vars f) true p ↔ Is (Or (trees_of (map (λ s. existential s.piece) list))) true p
     by_expanded (successors x parts) grows gives = grown_true vars f node.occurring x parts list canonical (expansion_grown vars f canonical node.proper x parts grows) (cc)
     by_expanded (failed s) grows gives = absurd (cc)

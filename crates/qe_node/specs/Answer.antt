@@ -19,23 +19,23 @@ abbrev pub below : List ℕ → List (ℕ × Formula) → List (ℕ × Sight)
 below vars parts = map (λ s. (s.0, record { vars = remaining vars s.1; form = s.1 })) parts
 
 -- where the variable x is eliminated from a node with these variables
-abbrev pub outcome_of : List ℕ → Expanded NodeStop → Result (List (ℕ × Sight)) NodeStop
-outcome_of vars (successors x parts) = Ok (below (others x vars) parts)
-outcome_of vars (failed s) = Err s
+abbrev pub with_nodes : List ℕ → Expanded NodeStop → Result (List (ℕ × Sight)) NodeStop
+with_nodes vars (successors x parts) = Ok (below (others x vars) parts)
+with_nodes vars (failed s) = Err s
 
 -- the successors of a node with their numbers, or why it fails
-abbrev pub outcome : Sight → Result (List (ℕ × Sight)) NodeStop
-outcome n = outcome_of n.vars (expansion n.vars n.form)
+abbrev pub expansion_of : Sight → Result (List (ℕ × Sight)) NodeStop
+expansion_of n = with_nodes n.vars (expansion n.vars n.form)
 
 -- ---- the answer
 
 -- the numbers and the nodes of successors
-abbrev pub shown : List (Next Sight) → List (ℕ × Sight)
-shown list = map (λ s. (s.point, s.piece)) list
+abbrev pub numbered_nodes : List (Next Sight) → List (ℕ × Sight)
+numbered_nodes list = map (λ s. (s.point, s.piece)) list
 
--- it is the outcome; or that the stop was told, or want of memory
-abbrev pub IsAnswer : Result (List (ℕ × Sight)) NodeStop → (told : Bool) → Made Sight NodeStop → Type 0
-IsAnswer want told (made.Successors list) = want ≡ Ok (shown list.items)
-IsAnswer want told (made.Failed s) = want ≡ Err s
-IsAnswer want told made.Stopped = told ≡ true
-IsAnswer want told made.OutOfMemory = Unit {0}
+-- it is the expansion; or the stop was told, or memory ran out
+abbrev pub IsExpansion : Result (List (ℕ × Sight)) NodeStop → (told : Bool) → Made Sight NodeStop → Type 0
+IsExpansion expanded told (made.Successors list) = expanded ≡ Ok (numbered_nodes list.items)
+IsExpansion expanded told (made.Failed s) = expanded ≡ Err s
+IsExpansion expanded told made.Stopped = told ≡ true
+IsExpansion expanded told made.OutOfMemory = Unit {0}

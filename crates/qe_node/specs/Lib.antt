@@ -1,11 +1,9 @@
-pub mod Key
-pub mod KeyLaws
 pub mod Node
-pub mod Equal
 pub mod Successors
 pub mod Trial
 pub mod Answer
 pub mod Truth
-pub mod Piece
 pub mod Growth
-pub mod PieceLaws
+pub mod Piece
+pub mod key
+pub mod lemmas

@@ -1,9 +1,10 @@
 -- The successors of a node: a variable is chosen and each of its candidates tried in turn; or why the node fails.
-use Rattle.std.specs.Prelude.{ℕ, suc, Bool, true, false, cond, List, [], ◌∷◌, map, Option, Some, None, Result, Ok, Err}
+use Rattle.std.specs.Prelude.{ℕ, suc, cond, List, [], ◌∷◌, map, Option, Some, None, Result, Ok, Err}
 use Rattle.qe_poly.specs.declared.monomial.Var.{Var}
 use Rattle.qe_poly.specs.declared.limit.PolyLimit.{PolyLimit}
 use Rattle.qe_poly.specs.Polynomial.{Polynomial}
-use Rattle.qe_form.specs.Formula.{Formula, True, False, And, no_more, more}
+use Rattle.qe_form.specs.Formula.{Formula}
+use Rattle.qe_form.specs.Making.{both, is_true, is_false}
 use Rattle.qe_simp.specs.Simplified.{simplified}
 use Rattle.qe_root.specs.declared.point.Point.{Point}
 use Rattle.qe_root.specs.declared.stop.Stage.TheVariants as stage
@@ -21,24 +22,16 @@ use Rattle.qe_tree.specs.Expanded.{Expanded, Expansion, successors, failed}
 use Rattle.qe_node.specs.declared.stop.NodeStop.{NodeStop}
 use Rattle.qe_node.specs.declared.stop.NodeStop.TheVariants.{DegreeExcess, Limit, TooLarge}
 
-abbrev pub is_false : Formula → Bool
-is_false False = true
-is_false f = false
-
-abbrev pub is_true : Formula → Bool
-is_true True = true
-is_true f = false
-
 -- the number of the candidate's atom
 abbrev pub atom_of : Candidate → ℕ
 atom_of (Root f n which plus) = n
 atom_of MinusInf = 0
 
--- the stop of a substitution as that of a node, at the candidate with this number; want of memory is none of these
-abbrev pub stop_at : ℕ → SubstStop → NodeStop
-stop_at n (met.At atom step polynomial) = Limit n atom step polynomial
-stop_at n met.TooLarge = TooLarge n
-stop_at n met.OutOfMemory = TooLarge n
+-- the stop of a substitution as that of a node, at the candidate with this number; out of memory is none of these
+abbrev pub node_stop_at : ℕ → SubstStop → NodeStop
+node_stop_at n (met.At atom step polynomial) = Limit n atom step polynomial
+node_stop_at n met.TooLarge = TooLarge n
+node_stop_at n met.OutOfMemory = TooLarge n
 
 -- what becomes of a candidate: the node fails, or it gives no successor, or it gives one
 pub data Tried : Type 0 where
@@ -52,13 +45,13 @@ unless_false g = cond (is_false g) skipped (gives g)
 
 -- a limit in the substitution comes first
 abbrev pub after_stop : ℕ → Formula → Option SubstStop → Tried
-after_stop n g (Some s) = fails (stop_at n s)
+after_stop n g (Some s) = fails (node_stop_at n s)
 after_stop n g None = unless_false g
 
 module _ (x : ℕ) (f : Formula) where
   -- the simplified And of a guard and of the formula at its point
   abbrev pub joined : (guard : Formula) → Point → Option Polynomial → Formula
-  joined guard point own = simplified (And (more guard (more (substituted x point own f) no_more)))
+  joined guard point own = simplified (both guard (substituted x point own f))
 
   abbrev pub put_in : ℕ → (guard : Formula) → Point → Option Polynomial → Tried
   put_in n guard point own = after_stop n (joined guard point own) (stop x point own f)
@@ -98,9 +91,10 @@ abbrev pub at_choice : Formula → Option Var → Expanded NodeStop
 at_choice f None = failed DegreeExcess
 at_choice f (Some v) = at_variable v.0 (given_by v.0 f 0 (candidates v.0 f))
 
-abbrev pub variables : List ℕ → List Var
-variables xs = map (λ x. record { 0 = x }) xs
+-- the variables with these numbers
+abbrev pub as_vars : List ℕ → List Var
+as_vars xs = map (λ x. record { 0 = x }) xs
 
 -- what becomes of the node with these variables and this formula
 abbrev pub expansion : Expansion NodeStop
-expansion xs f = at_choice f (choice f (variables xs))
+expansion xs f = at_choice f (choice f (as_vars xs))

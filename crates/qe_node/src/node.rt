@@ -2,7 +2,8 @@
 
 ghost use Rattle.std.specs.Prelude.{◌≡◌, eqb, map};
 ghost use Rattle.std.specs.Cmp.{partial_equiv_from_equiv};
-ghost use Rattle.qe_node.specs.Equal.{same_sight, same_sight_equiv, sight_fed, sight_fed_alike};
+ghost use Rattle.qe_node.specs.key.Equal.{same_sight, sight_fed};
+ghost use Rattle.qe_node.specs.lemmas.Equal.{same_sight_equiv, sight_fed_alike};
 ghost use lib.Pointwise.{pointwise};
 
 use crate::{Form, Var, Vars};
@@ -21,7 +22,8 @@ pub struct Node {
 impl Model for Node {
     ghost use Rattle.std.specs.Prelude.{map};
     ghost use Rattle.qe_form.specs.Tree.{tree};
-    ghost use Rattle.qe_node.specs.Node.{Sight, sight_code, IsNode};
+    ghost use Rattle.qe_node.specs.Node.{Sight, IsNode};
+    ghost use Rattle.qe_node.specs.lemmas.Code.{sight_code};
 
     ghost Value = { Sight };
 

@@ -1,11 +1,10 @@
 //! Nodes as pieces, and the maker of their successors.
 
-ghost use Rattle.qe_node.specs.Equal.{same_is_key};
-ghost use Rattle.qe_node.specs.Node.{sight_key, sight_of};
-ghost use Rattle.qe_node.specs.Piece.{leaf_of, truth_of, height_of, meaning_of};
-ghost use Rattle.qe_node.specs.PieceLaws.{true_is_leaf, descends};
+ghost use Rattle.qe_node.specs.key.Code.{sight_key, sight_of};
+ghost use Rattle.qe_node.specs.lemmas.Equal.{same_is_key};
+ghost use Rattle.qe_node.specs.lemmas.Piece.{true_is_leaf, descends};
+ghost use Rattle.qe_node.specs.Piece.{is_leaf_node, is_true_node, height_of, meaning_of};
 
-use crate::growth::is_true;
 use crate::{Node, NodeStop, OutOfMemory, Sequence, expand};
 use qe_piece::{Made, Maker, Piece, Stop};
 use std::alloc::Global;
@@ -18,9 +17,9 @@ impl Piece for Node {
 
     ghost meaning = { λ k. meaning_of (sight_of k) };
 
-    ghost leaf = { λ k. leaf_of (sight_of k) };
+    ghost leaf = { λ k. is_leaf_node (sight_of k) };
 
-    ghost truth = { λ k. truth_of (sight_of k) };
+    ghost truth = { λ k. is_true_node (sight_of k) };
 
     ghost height = { λ k. height_of (sight_of k) };
 
@@ -35,7 +34,7 @@ impl Piece for Node {
     }
 
     fn is_true(&self) -> bool {
-        self.vars.items().is_empty() && is_true(&self.form)
+        self.vars.items().is_empty() && self.form.is_true()
     }
 
     fn rank(&self) -> u64 {

@@ -1,6 +1,7 @@
 //! Why a node has no successors.
 
 use crate::{PolyLimit, Stage};
+use qe_halt::Halt;
 
 /// Why a node fails.
 #[derive(Clone, Copy, Debug, PartialEq, Eq)]
@@ -20,3 +21,15 @@ pub enum NodeStop {
         point: u64,
     },
 }
+
+/// Why no successors are given, where memory does not run out.
+#[derive(Clone, Copy, Debug, PartialEq, Eq)]
+pub enum GrowthLimit {
+    /// The node fails.
+    Failed(NodeStop),
+    /// The stop was told.
+    Stopped,
+}
+
+/// Why no successors are given.
+pub type GrowthStop = Halt<GrowthLimit>;

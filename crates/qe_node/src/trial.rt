@@ -3,13 +3,12 @@
 ghost use Rattle.std.specs.Prelude.{◌≡◌, ◌≢◌, ◌≤◌, IfOk, option_copied};
 ghost use Rattle.qe_form.specs.Measures.{degree};
 ghost use Rattle.qe_form.specs.Plain.{IsPlainAndProper};
-ghost use Rattle.qe_form.specs.Formula.{And, more, no_more};
 ghost use Rattle.qe_form.specs.Tree.{tree};
 ghost use Rattle.qe_points.specs.Guarded.{HasRoot, own};
-ghost use Rattle.qe_node.specs.Successors.{fails, stop_at, put_in, tried, unless_false};
+ghost use Rattle.qe_node.specs.Successors.{fails, node_stop_at, put_in, tried, unless_false};
 ghost use Rattle.qe_node.specs.Trial.{trial_of, GivesFit, HasFitGuard, MayStand};
 
-use crate::{Form, NodeStop, OutOfMemory, Sequence, Var};
+use crate::{Form, NodeStop, OutOfMemory, Var};
 use qe_points::{Candidate, GuardedPoint, Poly, SubstStop, guarded};
 use qe_simp::simplify;
 use qe_subst::substitute;
@@ -23,10 +22,10 @@ pub enum Trial {
     Given(Form),
 }
 
-/// The stop of a guard or a substitution as that of the node, at the candidate with this number; `Err` where it is want of memory.
+/// The stop of a guard or a substitution as that of the node, at the candidate with this number; `Err` where memory ran out.
 fn stopped(stop: SubstStop, point: u64) -> Result<Trial, OutOfMemory>
     ensures memory { IfOk result (λ _. stop ≢ SubstStop.OutOfMemory) }
-    ensures stop { IfOk result (λ t. trial_of t ≡ fails (stop_at point stop)) }
+    ensures stop { IfOk result (λ t. trial_of t ≡ fails (node_stop_at point stop)) }
     ensures fit { IfOk result GivesFit }
 {
     match stop {
@@ -51,25 +50,16 @@ fn own(candidate: &Candidate) -> Option<&Poly>
     }
 }
 
-/// The And of two formulas.
-fn both(alloc: Global, left: Form, right: Form) -> Result<Form, OutOfMemory>
-    ensures { IfOk result (λ f. tree f ≡ And (more (tree left) (more (tree right) no_more))) }
-{
-    let mut parts = Sequence::new(alloc);
-    parts.push(left)?;
-    parts.push(right)?;
-    Ok(Form::And(parts))
-}
-
 /// No successor where the formula is False, and else that with the formula.
 fn unless_false(form: Form) -> Trial
     requires { MayStand (tree form) }
     ensures exact { trial_of result ≡ unless_false (tree form) }
     ensures fit { GivesFit result }
 {
-    match form {
-        Form::False => Trial::Skipped,
-        other => Trial::Given(other),
+    if form.is_false() {
+        Trial::Skipped
+    } else {
+        Trial::Given(form)
     }
 }
 
@@ -91,7 +81,7 @@ fn put_in(
     let GuardedPoint { guard, point } = found;
     match substitute(alloc, form, x, &point, own) {
         Ok(rest) => {
-            let joined = simplify(alloc, both(alloc, guard, rest)?)?;
+            let joined = simplify(alloc, Form::both(alloc, guard, rest)?)?;
             Ok(unless_false(joined))
         }
         Err(stop) => stopped(stop, number),

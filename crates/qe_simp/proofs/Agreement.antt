@@ -18,8 +18,8 @@ use Rattle.qe_form.specs.Order.{formula_cmp}
 use Rattle.qe_form.specs.OrderLaws.{formula_same}
 use Rattle.qe_simp.specs.declared.connective.Connective.{Connective}
 use Rattle.qe_simp.specs.declared.connective.Connective.TheVariants.{Conjunction, Disjunction}
-use Rattle.qe_simp.specs.Simplified.{neutral, deciding, connected, joined_signs, listed, parts_in, as_one, decides, closed, decided, joint, simplified, simplified_each}
-use Rattle.qe_simp.specs.Shape.{EachAtom, EachAtomOf, IsCanonical}
+use Rattle.qe_simp.specs.Simplified.{neutral, deciding, under, joined_signs, listed, parts_in, as_one, decides, united, decided, joint, simplified, simplified_each}
+use Rattle.qe_simp.specs.Shape.{EachAtom, EachAtomOf, IsCanonicalAtom}
 use Rattle.qe_simp.proofs.Atoms.{never_has, always_has, canonical_agrees}
 use Rattle.qe_simp.proofs.Parts.{Each, Any, steps, Each-steps, Any-steps, steps-Any}
 
@@ -163,7 +163,7 @@ module _ (p : Point) where
   abbrev WholeIs : Connective → Formula → List Formula → Type 0
   WholeIs k f fs = (Kept k f ↔ Each (Kept k) fs) × (Other k f ↔ Any (Other k) fs)
 
-  connected_is : (k : Connective) (fs : List Formula) → WholeIs k (connected k fs) fs
+  connected_is : (k : Connective) (fs : List Formula) → WholeIs k (under k fs) fs
   connected_is Conjunction fs = (each_trees true fs, some_trees false fs)
   connected_is Disjunction fs = (each_trees false fs, some_trees true fs)
 
@@ -171,7 +171,7 @@ module _ (p : Point) where
   neutral_is Conjunction = (((λ h. tt), (λ h. refl)), ((λ h. absurd (cc)), (λ h. absurd h)))
   neutral_is Disjunction = (((λ h. tt), (λ h. refl)), ((λ h. absurd (cc)), (λ h. absurd h)))
 
-  closed_is : (k : Connective) (fs : List Formula) → WholeIs k (closed k fs) fs
+  closed_is : (k : Connective) (fs : List Formula) → WholeIs k (united k fs) fs
   closed_is k [] = neutral_is k
   closed_is k (f ∷ []) = (((λ h. (h, tt)), (λ h. h.0)), ((λ h. inl h), (λ h. elim h [ inl x ↦ x | inr y ↦ absurd y ])))
   closed_is k (f ∷ g ∷ gs) = connected_is k (f ∷ g ∷ gs)
@@ -179,7 +179,7 @@ module _ (p : Point) where
   decided_is : (k : Connective) (fs : List Formula) → WholeIs k (decided k fs) fs
   decided_is k fs = by_test (list_any (decides k) fs) refl
     where
-      by_test : (b : Bool) → list_any (decides k) fs ≡ b → WholeIs k (cond b (deciding k) (closed k fs)) fs
+      by_test : (b : Bool) → list_any (decides k) fs ≡ b → WholeIs k (cond b (deciding k) (united k fs)) fs
       by_test true test =
           let parts = some_decides k fs test in
           let whole = deciding_is k in (((λ h. absurd (whole.0 h)), (λ h. absurd (parts.0 h))), ((λ h. parts.1), (λ h. whole.1)))
@@ -200,7 +200,7 @@ module _ (p : Point) where
 
   module _ (valid : IsPoint p) where
     mutual
-      pub agrees : (f : Formula) → EachAtom IsCanonical f → (b : Bool) → Is f b p ↔ Is (simplified f) b p
+      pub agrees : (f : Formula) → EachAtom IsCanonicalAtom f → (b : Bool) → Is f b p ↔ Is (simplified f) b p
       agrees True atoms b = ((λ h. h), (λ h. h))
       agrees False atoms b = ((λ h. h), (λ h. h))
       agrees (Atom a) canonical b = canonical_agrees a canonical p valid b
@@ -214,13 +214,13 @@ module _ (p : Point) where
       agrees (Ex x f) atoms b = ((λ h. h), (λ h. h))
       agrees (All x f) atoms b = ((λ h. h), (λ h. h))
 
-      agree_each : (fs : Formulas) → EachAtomOf IsCanonical fs → (b : Bool) → EachIs fs b p ↔ Each (λ g. Is g b p) (simplified_each fs)
+      agree_each : (fs : Formulas) → EachAtomOf IsCanonicalAtom fs → (b : Bool) → EachIs fs b p ↔ Each (λ g. Is g b p) (simplified_each fs)
       agree_each no_more atoms b = ((λ h. h), (λ h. h))
       agree_each (more f fs) atoms b =
           let first = agrees f atoms.0 b in
           let rest = agree_each fs atoms.1 b in ((λ h. (first.0 h.0, rest.0 h.1)), (λ h. (first.1 h.0, rest.1 h.1)))
 
-      agree_some : (fs : Formulas) → EachAtomOf IsCanonical fs → (b : Bool) → SomeIs fs b p ↔ Any (λ g. Is g b p) (simplified_each fs)
+      agree_some : (fs : Formulas) → EachAtomOf IsCanonicalAtom fs → (b : Bool) → SomeIs fs b p ↔ Any (λ g. Is g b p) (simplified_each fs)
       agree_some no_more atoms b = ((λ h. h), (λ h. h))
       agree_some (more f fs) atoms b =
           let first = agrees f atoms.0 b in

@@ -8,7 +8,7 @@ use Rattle.qe_form.specs.Formula.{Formula, True, False}
 use Rattle.qe_form.specs.Tree.{trees_of}
 use Rattle.qe_simp.specs.declared.connective.Connective.{Connective}
 use Rattle.qe_simp.specs.declared.connective.Connective.TheVariants.{Conjunction, Disjunction}
-use Rattle.qe_simp.specs.Simplified.{deciding, connected, parts_in, decides, closed, simplified, simplified_each}
+use Rattle.qe_simp.specs.Simplified.{deciding, under, parts_in, decides, united, simplified, simplified_each}
 use Rattle.qe_simp.specs.Alike.{Alike, itself, back, onward, flat, alone, same_parts, EachIsAmong, none, and_one}
 use Rattle.qe_simp.specs.Laws.{HaveSameParts}
 use Rattle.qe_simp.proofs.Contents.{join, join_none, join_comm, join_assoc, join_same, content, content-append, ordered, content-ordered}
@@ -19,7 +19,7 @@ use Rattle.qe_simp.proofs.Stable.{simplified_stable, each_stable, whole_parts, o
 abbrev pieces : Connective → List Formula → List Formula
 pieces k fs = flat_map (parts_in k) (simplified_each (trees_of fs))
 
-simplified_connected : (k : Connective) (fs : List Formula) → simplified (connected k fs) ≡ whole k (pieces k fs)
+simplified_connected : (k : Connective) (fs : List Formula) → simplified (under k fs) ≡ whole k (pieces k fs)
 simplified_connected Conjunction fs = refl
 simplified_connected Disjunction fs = refl
 
@@ -36,22 +36,22 @@ decided_first Disjunction qs = whole_longer Disjunction (True ∷ []) qs refl
 whole_first : (k : Connective) (fs : List Formula) (qs : List Formula) → whole k (parts_in k (whole k (pieces k fs)) ++ qs) ≡ whole k (pieces k fs ++ qs)
 whole_first k fs qs = by_test (list_any (decides k) (ordered k (pieces k fs))) refl
   where
-    by_test : (b : Bool) → list_any (decides k) (ordered k (pieces k fs)) ≡ b → whole k (parts_in k (cond b (deciding k) (closed k (ordered k (pieces k fs)))) ++ qs) ≡ whole k (pieces k fs ++ qs)
+    by_test : (b : Bool) → list_any (decides k) (ordered k (pieces k fs)) ≡ b → whole k (parts_in k (cond b (deciding k) (united k (ordered k (pieces k fs)))) ++ qs) ≡ whole k (pieces k fs ++ qs)
     by_test true test = decided_first k qs ∙ sym (whole_longer k (pieces k fs) qs test)
     by_test false test =
         ap (λ ps. whole k (ps ++ qs)) (own_closed k (simplified_each (trees_of fs)) (each_stable (trees_of fs)))
         ∙ same_whole k (ordered k (pieces k fs) ++ qs) (pieces k fs ++ qs) (λ x. (
         content-append k x (ordered k (pieces k fs)) qs ∙ (ap (λ c. join k c (content k x qs)) (content-ordered k x (pieces k fs)) ∙ sym (content-append k x (pieces k fs) qs))))
 
-laid_flat : (k : Connective) (fs gs : List Formula) → simplified (connected k (connected k fs ∷ gs)) ≡ simplified (connected k (fs ++ gs))
+laid_flat : (k : Connective) (fs gs : List Formula) → simplified (under k (under k fs ∷ gs)) ≡ simplified (under k (fs ++ gs))
 laid_flat k fs gs =
-    simplified_connected k (connected k fs ∷ gs)
+    simplified_connected k (under k fs ∷ gs)
     ∙ (ap (λ f. whole k (parts_in k f ++ pieces k gs)) (simplified_connected k fs)
     ∙ (whole_first k fs (pieces k gs) ∙ (ap (whole k) (sym (pieces-append k fs gs)) ∙ sym (simplified_connected k (fs ++ gs)))))
 
 -- ---- one part alone
 
-left_alone : (k : Connective) (f : Formula) → simplified (connected k (f ∷ [])) ≡ simplified f
+left_alone : (k : Connective) (f : Formula) → simplified (under k (f ∷ [])) ≡ simplified f
 left_alone k f = simplified_connected k (f ∷ []) ∙ (ap (whole k) (append-nil (parts_in k (simplified f))) ∙ whole_parts k (simplified f) (simplified_stable f))
 
 -- ---- the same parts
@@ -109,5 +109,5 @@ each_from : (fs gs : List Formula) → ((f : Formula) → Contains fs f → Cont
 each_from [] gs within = none
 each_from (f ∷ fs) gs within = and_one (within f (0, omega arith, refl)) itself (each_from fs gs (λ g found. within g (suc found.0, omega (arith, found.1), found.2)))
 
-pub same_members : (k : Connective) (fs gs : List Formula) → HaveSameParts fs gs → simplified (connected k fs) ≡ simplified (connected k gs)
+pub same_members : (k : Connective) (fs gs : List Formula) → HaveSameParts fs gs → simplified (under k fs) ≡ simplified (under k gs)
 same_members k fs gs same = alike_equal (same_parts k fs gs (each_from fs gs same.0) (each_from gs fs same.1))

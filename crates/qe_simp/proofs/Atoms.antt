@@ -18,9 +18,10 @@ use Rattle.qe_form.specs.Formula.{Formula, True, False, Atom}
 use Rattle.qe_form.specs.Value.{value}
 use Rattle.qe_form.specs.Truth.{has_sign, Is}
 use Rattle.qe_form.proofs.Values.{value_of_multiple, value_valid}
-use Rattle.qe_simp.specs.Simplified.{truth, as_number, on_number, simplified_atom}
+use Rattle.qe_form.specs.Making.{constant as truth}
+use Rattle.qe_simp.specs.Simplified.{as_number, on_number, simplified_atom}
 use Rattle.qe_simp.specs.Meaning.{AgreesEverywhere}
-use Rattle.qe_simp.specs.Shape.{IsCanonical}
+use Rattle.qe_simp.specs.Shape.{IsCanonicalAtom}
 use Rattle.qe_simp.proofs.Numbers.{sign_of-constant}
 use Rattle.qe_simp.proofs.Primitive.{multiple_of_primitive}
 
@@ -149,7 +150,7 @@ is_constant p c = by_test (poly_eq p (constant (coefficient p []))) refl
     by_test true test is = let same : coefficient p [] ≡ c = cc in poly_tells p (constant (coefficient p [])) test ∙ ap constant same
     by_test false test is = absurd (cc)
 
-pub canonical_agrees : (a : atom.Atom) → IsCanonical a → AgreesEverywhere (Atom a) (simplified_atom a)
+pub canonical_agrees : (a : atom.Atom) → IsCanonicalAtom a → AgreesEverywhere (Atom a) (simplified_atom a)
 canonical_agrees a canonical = by_number (as_number a.poly) refl
   where
     by_number : (o : Option ℤ) → as_number a.poly ≡ o → AgreesEverywhere (Atom a) (simplified_atom a)
@@ -167,3 +168,13 @@ primitive_is a q s m n first some second not_all none poly signs =
     (λ i. Atom (record { poly = poly i; signs = signs i }))
     ∙ sym ((λ i. cond (untrue (bits a.signs) 0 (λ e. some (first ∙ e)) i) False (cond (untrue (bits a.signs) 7 (λ e. not_all (second ∙ e)) i) True (on_number a (as_number a.poly))))
     ∙ ap (on_number a) (no_number a.poly none))
+
+-- an atom on a number
+pub constant_is : (a : atom.Atom) (c : ℤ) → a.poly ≡ constant c → truth (has_sign a.signs (int_sign c)) ≡ simplified_atom a
+constant_is a c same = by_tests (eqb (bits a.signs) 0) (eqb (bits a.signs) 7) refl refl
+  where
+    by_tests : (s t : Bool) → eqb (bits a.signs) 0 ≡ s → eqb (bits a.signs) 7 ≡ t
+        → truth (has_sign a.signs (int_sign c)) ≡ cond s False (cond t True (on_number a (as_number a.poly)))
+    by_tests true t none all = ap truth (never_has a.signs (int_sign c) none)
+    by_tests false true none all = ap truth (always_has a.signs (int_sign c) all)
+    by_tests false false none all = sym (ap (on_number a) (number_from a.poly c same))

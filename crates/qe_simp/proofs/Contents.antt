@@ -9,7 +9,7 @@ use Rattle.qe_form.specs.Formula.{Formula}
 use Rattle.qe_form.specs.Order.{formula_cmp}
 use Rattle.qe_form.specs.OrderLaws.{formula_total, formula_same}
 use Rattle.qe_simp.specs.declared.connective.Connective.{Connective}
-use Rattle.qe_simp.specs.Simplified.{joined_signs, insert, in_order, as_one, one_or_two, merged_from, merged}
+use Rattle.qe_simp.specs.Simplified.{joined_signs, insert, in_order, as_one, one_or_two, merged_from, merged_parts}
 use Rattle.qe_simp.proofs.Keys.{key, signs_of, same_part, joined_comm, joined_assoc, joined_same, equal_tie, One, one_of, apart_of, key_up}
 use Rattle.qe_simp.proofs.Sorting.{Rising, Rising-in_order}
 
@@ -85,13 +85,13 @@ content-merged_from k x f (g ∷ gs) = by_one (λ h. content-merged_from k x h g
     by_one again None is = ap (join k (at x f)) (again g)
     by_one again (Some h) is = again h ∙ (ap (λ o. join k o (content k x gs)) (at_one k x f g h (one_of k f g h is)) ∙ join_assoc k (at x f) (at x g) (content k x gs))
 
-content-merged : (k : Connective) (x : Formula) (fs : List Formula) → content k x (merged k fs) ≡ content k x fs
+content-merged : (k : Connective) (x : Formula) (fs : List Formula) → content k x (merged_parts k fs) ≡ content k x fs
 content-merged k x [] = refl
 content-merged k x (f ∷ fs) = content-merged_from k x f fs
 
 -- the parts in order, merged
 abbrev pub ordered : Connective → List Formula → List Formula
-ordered k fs = merged k (in_order fs)
+ordered k fs = merged_parts k (in_order fs)
 
 pub content-ordered : (k : Connective) (x : Formula) (fs : List Formula) → content k x (ordered k fs) ≡ content k x fs
 content-ordered k x fs = content-merged k x (in_order fs) ∙ content-in_order k x fs
@@ -192,7 +192,7 @@ ascending_from k f (g ∷ gs) first rising = by_one (λ h. ascending_from k h gs
     by_one again None is = (before_merged k (key f) g gs (before_is (formula_cmp (key f) (key g)) first (apart_of k f g is)), again g rising.0 rising.1)
     by_one again (Some h) is = let one = one_of k f g h is in again h (subst (λ x. IsUpToKey x gs) (sym (one.kept ∙ one.same)) rising.0) rising.1
 
-pub ascending_merged : (k : Connective) (fs : List Formula) → Rising fs → Ascending (merged k fs)
+pub ascending_merged : (k : Connective) (fs : List Formula) → Rising fs → Ascending (merged_parts k fs)
 ascending_merged k [] rising = tt
 ascending_merged k (f ∷ fs) rising = let keys = rising_keys (f ∷ fs) rising in ascending_from k f fs keys.0 keys.1
 

@@ -11,7 +11,7 @@ use Rattle.qe_form.specs.Order.{formula_cmp}
 use Rattle.qe_form.specs.OrderLaws.{formula_total, formula_same, bits_same}
 use Rattle.qe_simp.specs.declared.connective.Connective.{Connective}
 use Rattle.qe_simp.specs.declared.connective.Connective.TheVariants.{Conjunction, Disjunction}
-use Rattle.qe_simp.specs.Simplified.{joined_signs, decides, deciding, closed, decided}
+use Rattle.qe_simp.specs.Simplified.{joined_signs, decides, deciding, united, decided}
 use Rattle.qe_simp.proofs.Keys.{no_signs, all_signs, key, signs_of, with_signs, rebuilt, equal_tie}
 use Rattle.qe_simp.proofs.Contents.{join, join_comm, at, content, content-append, content_first, content_apart, ordered, content-ordered, Ascending, ascending_ordered, same_ordered}
 
@@ -76,4 +76,4 @@ pub same_whole : (k : Connective) (fs gs : List Formula) → ((x : Formula) → 
 same_whole k fs gs same = ap (decided k) (same_ordered k fs gs same)
 
 pub whole_longer : (k : Connective) (fs gs : List Formula) → list_any (decides k) (ordered k fs) ≡ true → whole k (fs ++ gs) ≡ deciding k
-whole_longer k fs gs test = ap (λ b. cond b (deciding k) (closed k (ordered k (fs ++ gs)))) (decides_longer k fs gs test)
+whole_longer k fs gs test = ap (λ b. cond b (deciding k) (united k (ordered k (fs ++ gs)))) (decides_longer k fs gs test)

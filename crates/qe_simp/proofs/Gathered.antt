@@ -8,7 +8,7 @@ use Rattle.qe_form.specs.Tree.{tree, trees}
 use Rattle.qe_form.proofs.Trees.{appended, trees_push}
 use Rattle.qe_simp.specs.declared.connective.Connective.{Connective}
 use Rattle.qe_simp.specs.Simplified.{parts_in, simplified, simplified_each}
-use Rattle.qe_simp.specs.Shape.{EachAtom, EachAtomOf, IsCanonical}
+use Rattle.qe_simp.specs.Shape.{EachAtom, EachAtomOf, IsCanonicalAtom}
 
 gathered_appended : (k : Connective) (fs : Formulas) (f : Formula) → flat_map (parts_in k) (simplified_each (appended fs f)) ≡ flat_map (parts_in k) (simplified_each fs) ++ parts_in k (simplified f)
 gathered_appended k no_more f = append-nil (parts_in k (simplified f))
@@ -21,9 +21,9 @@ gathered_more k old new done form simple before made added =
     added ∙ ((λ i. before i ++ parts_in k (made i))
     ∙ sym (ap (λ ts. flat_map (parts_in k) (simplified_each ts)) (trees_push done form) ∙ gathered_appended k (trees done) (tree form)))
 
-canonical_appended : (fs : Formulas) (f : Formula) → EachAtomOf IsCanonical fs → EachAtom IsCanonical f → EachAtomOf IsCanonical (appended fs f)
+canonical_appended : (fs : Formulas) (f : Formula) → EachAtomOf IsCanonicalAtom fs → EachAtom IsCanonicalAtom f → EachAtomOf IsCanonicalAtom (appended fs f)
 canonical_appended no_more f each last = (last, tt)
 canonical_appended (more g fs) f each last = (each.0, canonical_appended fs f each.1 last)
 
-pub canonical_more : (done : List Form) (form : Form) → EachAtomOf IsCanonical (trees done) → EachAtom IsCanonical (tree form) → EachAtomOf IsCanonical (trees (done ++ form ∷ []))
-canonical_more done form each last = subst (EachAtomOf IsCanonical) (sym (trees_push done form)) (canonical_appended (trees done) (tree form) each last)
+pub canonical_more : (done : List Form) (form : Form) → EachAtomOf IsCanonicalAtom (trees done) → EachAtom IsCanonicalAtom (tree form) → EachAtomOf IsCanonicalAtom (trees (done ++ form ∷ []))
+canonical_more done form each last = subst (EachAtomOf IsCanonicalAtom) (sym (trees_push done form)) (canonical_appended (trees done) (tree form) each last)

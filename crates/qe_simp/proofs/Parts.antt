@@ -5,7 +5,7 @@ use Rattle.std.specs.Ordering.{is_gt}
 use Rattle.qe_form.specs.Formula.{Formula}
 use Rattle.qe_form.specs.Order.{formula_cmp}
 use Rattle.qe_simp.specs.declared.connective.Connective.{Connective}
-use Rattle.qe_simp.specs.Simplified.{parts_in, insert, in_order, as_one, one_or_two, merged_from, merged}
+use Rattle.qe_simp.specs.Simplified.{parts_in, insert, in_order, as_one, one_or_two, merged_from, merged_parts}
 
 -- the fact holds of each formula
 abbrev pub Each : (Formula → Type 0) → List Formula → Type 0
@@ -19,7 +19,7 @@ Any P (f ∷ fs) = P f ⊎ Any P fs
 
 -- the steps, from the simplified parts to the merged ones
 abbrev pub steps : Connective → List Formula → List Formula
-steps k fs = merged k (in_order (flat_map (parts_in k) fs))
+steps k fs = merged_parts k (in_order (flat_map (parts_in k) fs))
 
 -- ---- each
 
@@ -52,7 +52,7 @@ module _ (P : Formula → Type 0) where
             let rest = again j in
             let both = one f g j is in ((λ h. let w = rest.0 h in let v = both.0 w.0 in (v.0, (v.1, w.1))), (λ h. rest.1 (both.1 (h.0, h.1.0), h.1.1)))
 
-    Each-merged : (fs : List Formula) → Each P (merged k fs) ↔ Each P fs
+    Each-merged : (fs : List Formula) → Each P (merged_parts k fs) ↔ Each P fs
     Each-merged [] = ((λ h. h), (λ h. h))
     Each-merged (f ∷ fs) = Each-merged_from f fs
 
@@ -82,7 +82,7 @@ module _ (P Q : Formula → Type 0) (k : Connective) (own : (f : Formula) → Q 
       by_one again None is = (first, again g rest.0 rest.1)
       by_one again (Some h) is = again h (one f g h is first rest.0) rest.1
 
-  merged-Each : (fs : List Formula) → Each P fs → Each P (merged k fs)
+  merged-Each : (fs : List Formula) → Each P fs → Each P (merged_parts k fs)
   merged-Each [] each = tt
   merged-Each (f ∷ fs) each = merged_from-Each f fs each.0 each.1
 
@@ -130,7 +130,7 @@ module _ (P : Formula → Type 0) where
         by_one again None is h = either (λ x. x) (again g) h
         by_one again (Some j) is h = regrouped (either (one f g j is) (λ y. y) (again j h))
 
-    Any-merged : (fs : List Formula) → Any P (merged k fs) → Any P fs
+    Any-merged : (fs : List Formula) → Any P (merged_parts k fs) → Any P fs
     Any-merged [] h = h
     Any-merged (f ∷ fs) h = Any-merged_from f fs h
 
@@ -166,7 +166,7 @@ module _ (P : Formula → Type 0) where
         by_one again None is h = either (λ x. x) (again g) h
         by_one again (Some j) is h = again j (either (one f g j is) (λ y. y) (grouped h))
 
-    merged-Any : (fs : List Formula) → Any P fs → Any P (merged k fs)
+    merged-Any : (fs : List Formula) → Any P fs → Any P (merged_parts k fs)
     merged-Any [] h = h
     merged-Any (f ∷ fs) h = merged_from-Any f fs h
 
@@ -208,7 +208,7 @@ module _ (w v : Formula → ℕ) where
         by_one again None is = omega (arith, again g)
         by_one again (Some j) is = omega (arith, again j, one f g j is)
 
-    sum-merged : (fs : List Formula) → sum_of w (merged k fs) ≤ sum_of w fs
+    sum-merged : (fs : List Formula) → sum_of w (merged_parts k fs) ≤ sum_of w fs
     sum-merged [] = omega arith
     sum-merged (f ∷ fs) = sum-merged_from f fs
 

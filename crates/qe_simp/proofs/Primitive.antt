@@ -7,6 +7,7 @@ use Rattle.std.proofs.lemmas.Bool.Decides.{nat_tests}
 use Rattle.std.specs.Ordering.{int_eq}
 use Rattle.std.specs.Int.{◌∣◌, IsGcd}
 use Rattle.std.specs.Int.RustNames.{int_div, int_lt}
+use Rattle.qe_ring.proofs.Bools.{no_way}
 use Rattle.qe_ring.specs.Sign.{Minus, Plus, int_sign, ◌·◌}
 use Rattle.qe_ring.proofs.Ints.{int_ordered}
 use Rattle.qe_poly.specs.Polynomial.{Term, Polynomial, IsPolynomial, constant}
@@ -65,10 +66,7 @@ not_less : (n : ℕ) → int_lt (pos n) (pos 0) ≡ false
 not_less n = grind (arith, nat_tests)
 
 minus_is : (c : ℤ) → int_lt c (pos 0) ≡ true → int_sign c ≡ Minus
-minus_is (pos n) test = absurd (no_way (sym (not_less n) ∙ test))
-  where
-    no_way : false ≡ true → ⊥
-    no_way same = absurd (cc)
+minus_is (pos n) test = no_way (sym (not_less n) ∙ test)
 minus_is (negsuc n) test = refl
 
 not_minus : (c : ℤ) → int_lt c (pos 0) ≡ false → int_sign c ≡ Minus → ⊥

@@ -12,8 +12,9 @@ use Rattle.qe_form.specs.Same.{HasNoQuantifier, HaveNoQuantifier}
 use Rattle.qe_form.specs.Plain.{IsPlain, IsPlainWith, ArePlainWith, IsPlainAndProper}
 use Rattle.qe_simp.specs.declared.connective.Connective.{Connective}
 use Rattle.qe_simp.specs.declared.connective.Connective.TheVariants.{Conjunction, Disjunction}
-use Rattle.qe_simp.specs.Simplified.{truth, as_number, on_number, simplified_atom, deciding, connected, listed, parts_in, as_one, decides, closed, joint, simplified, simplified_each}
-use Rattle.qe_simp.specs.Shape.{IsPrimitive, IsSimple, IsSimplified, EachAtom, EachAtomOf, IsCanonical}
+use Rattle.qe_form.specs.Making.{constant as truth}
+use Rattle.qe_simp.specs.Simplified.{as_number, on_number, simplified_atom, deciding, under, listed, parts_in, as_one, decides, united, joint, simplified, simplified_each}
+use Rattle.qe_simp.specs.Shape.{IsPrimitive, IsSimple, IsSimplified, EachAtom, EachAtomOf, IsCanonicalAtom}
 use Rattle.qe_simp.proofs.Atoms.{not_constant}
 use Rattle.qe_simp.proofs.Parts.{Each, steps, steps-Each}
 use Rattle.qe_simp.proofs.Sizes.{one_is}
@@ -23,8 +24,8 @@ use Rattle.qe_simp.proofs.Stable.{Stable, StableParts, simplified_stable, unchan
 -- ---- facts that joining keeps
 
 module _ (Q : Formula → Type 0) (constants : (b : Bool) → Q (truth b)) (own : (k : Connective) (f : Formula) → Q f → Each Q (parts_in k f)) (one : (k : Connective) (f g h : Formula) → as_one k f g ≡ Some h → Q f → Q g → Q h)
-    (whole : (k : Connective) (fs : List Formula) → Each Q fs → Q (connected k fs)) where
-  closed_keeps : (k : Connective) (fs : List Formula) → Each Q fs → Q (closed k fs)
+    (whole : (k : Connective) (fs : List Formula) → Each Q fs → Q (under k fs)) where
+  closed_keeps : (k : Connective) (fs : List Formula) → Each Q fs → Q (united k fs)
   closed_keeps Conjunction [] each = constants true
   closed_keeps Disjunction [] each = constants false
   closed_keeps k (f ∷ []) each = each.0
@@ -35,7 +36,7 @@ module _ (Q : Formula → Type 0) (constants : (b : Bool) → Q (truth b)) (own 
   deciding_keeps Disjunction = constants true
 
   joint_keeps : (k : Connective) (fs : List Formula) → Each Q fs → Q (joint k fs)
-  joint_keeps k fs each = elim (list_any (decides k) (steps k fs)) as (λ b. Q (cond b (deciding k) (closed k (steps k fs)))) [
+  joint_keeps k fs each = elim (list_any (decides k) (steps k fs)) as (λ b. Q (cond b (deciding k) (united k (steps k fs)))) [
     | true ↦ deciding_keeps k
     | false ↦ closed_keeps k (steps k fs) (steps-Each Q Q k (own k) (one k) fs each)
   ]
@@ -71,14 +72,14 @@ module _ (R : Polynomial → Type 0) where
   atoms_constant true = tt
   atoms_constant false = tt
 
-  atoms_connected : (k : Connective) (fs : List Formula) → Each Has fs → Has (connected k fs)
+  atoms_connected : (k : Connective) (fs : List Formula) → Each Has fs → Has (under k fs)
   atoms_connected Conjunction fs h = atoms_trees fs h
   atoms_connected Disjunction fs h = atoms_trees fs h
 
   atoms_joint : (k : Connective) (fs : List Formula) → Each Has fs → Has (joint k fs)
   atoms_joint = joint_keeps Has atoms_constant atoms_in atoms_one atoms_connected
 
-primitive_atoms : (a : atom.Atom) → IsCanonical a → EachAtom (λ b. IsPrimitive b.poly) (simplified_atom a)
+primitive_atoms : (a : atom.Atom) → IsCanonicalAtom a → EachAtom (λ b. IsPrimitive b.poly) (simplified_atom a)
 primitive_atoms a canonical = by_tests (eqb (bits a.signs) 0) (eqb (bits a.signs) 7)
   where
     by_number : (o : Option ℤ) → as_number a.poly ≡ o → EachAtom (λ b. IsPrimitive b.poly) (on_number a o)
@@ -91,7 +92,7 @@ primitive_atoms a canonical = by_tests (eqb (bits a.signs) 0) (eqb (bits a.signs
     by_tests false false = by_number (as_number a.poly) refl
 
 mutual
-  pub simplified_primitive : (f : Formula) → EachAtom IsCanonical f → EachAtom (λ a. IsPrimitive a.poly) (simplified f)
+  pub simplified_primitive : (f : Formula) → EachAtom IsCanonicalAtom f → EachAtom (λ a. IsPrimitive a.poly) (simplified f)
   simplified_primitive True atoms = tt
   simplified_primitive False atoms = tt
   simplified_primitive (Atom a) atoms = primitive_atoms a atoms
@@ -103,7 +104,7 @@ mutual
   simplified_primitive (Ex x f) atoms = tt
   simplified_primitive (All x f) atoms = tt
 
-  each_primitive : (fs : Formulas) → EachAtomOf IsCanonical fs → Each (EachAtom (λ a. IsPrimitive a.poly)) (simplified_each fs)
+  each_primitive : (fs : Formulas) → EachAtomOf IsCanonicalAtom fs → Each (EachAtom (λ a. IsPrimitive a.poly)) (simplified_each fs)
   each_primitive no_more atoms = tt
   each_primitive (more f fs) atoms = (simplified_primitive f atoms.0, each_primitive fs atoms.1)
 
@@ -131,7 +132,7 @@ plain_constant : (b : Bool) → IsPlain (truth b)
 plain_constant true = tt
 plain_constant false = tt
 
-plain_connected : (k : Connective) (fs : List Formula) → Each IsPlain fs → IsPlain (connected k fs)
+plain_connected : (k : Connective) (fs : List Formula) → Each IsPlain fs → IsPlain (under k fs)
 plain_connected Conjunction fs h = plain_trees fs h
 plain_connected Disjunction fs h = plain_trees fs h
 
@@ -226,10 +227,10 @@ mutual
   simple_atoms_each k (more f fs) plain parts atoms = (simple_atoms f plain.0 parts.1 atoms.0, simple_atoms_each k fs plain.1 parts.2 atoms.1)
 
 -- simplifying twice is simplifying once
-pub simplified_twice : (f : Formula) → EachAtom IsCanonical f → simplified (simplified f) ≡ simplified f
+pub simplified_twice : (f : Formula) → EachAtom IsCanonicalAtom f → simplified (simplified f) ≡ simplified f
 simplified_twice f canonical = unchanged (simplified f) (simplified_stable f) (simplified_primitive f canonical)
 
-pub simplified_is : (f : Formula) → IsPlain f → EachAtom IsCanonical f → IsSimplified (simplified f)
+pub simplified_is : (f : Formula) → IsPlain f → EachAtom IsCanonicalAtom f → IsSimplified (simplified f)
 simplified_is f plain canonical = record {
   simple = simple_atoms (simplified f) (simplified_plain f plain) (simplified_stable f) (simplified_primitive f canonical);
   unchanged = simplified_twice f canonical;

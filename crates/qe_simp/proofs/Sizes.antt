@@ -17,7 +17,8 @@ use Rattle.qe_form.specs.Measures.{count, count_each}
 use Rattle.qe_form.specs.Order.{formula_cmp}
 use Rattle.qe_simp.specs.declared.connective.Connective.{Connective}
 use Rattle.qe_simp.specs.declared.connective.Connective.TheVariants.{Conjunction, Disjunction}
-use Rattle.qe_simp.specs.Simplified.{truth, as_number, on_number, simplified_atom, neutral, deciding, connected, joined_signs, listed, parts_in, as_one, decides, closed, decided, joint, simplified, simplified_each}
+use Rattle.qe_form.specs.Making.{constant as truth}
+use Rattle.qe_simp.specs.Simplified.{as_number, on_number, simplified_atom, neutral, deciding, under, joined_signs, listed, parts_in, as_one, decides, united, decided, joint, simplified, simplified_each}
 use Rattle.qe_simp.proofs.Parts.{Any, steps, Any-steps, sum_of, sum-steps}
 
 -- two parts that are one are the first again, or an atom on the first's polynomial
@@ -58,7 +59,7 @@ module _ (x : ℕ) where
     | inr atoms ↦ inl (subst (IsFree x) (sym atoms.2) (subst (IsFree x) atoms.3 free))
   ]
 
-  free_closed : (k : Connective) (fs : List Formula) → IsFree x (closed k fs) → Any (IsFree x) fs
+  free_closed : (k : Connective) (fs : List Formula) → IsFree x (united k fs) → Any (IsFree x) fs
   free_closed Conjunction [] h = h
   free_closed Disjunction [] h = h
   free_closed k (f ∷ []) h = inl h
@@ -70,7 +71,7 @@ module _ (x : ℕ) where
   free_deciding Disjunction h = h
 
   free_decided : (k : Connective) (fs : List Formula) → IsFree x (decided k fs) → Any (IsFree x) fs
-  free_decided k fs = elim (list_any (decides k) fs) as (λ b. IsFree x (cond b (deciding k) (closed k fs)) → Any (IsFree x) fs) [ true ↦ λ h. absurd (free_deciding k h) | false ↦ free_closed k fs ]
+  free_decided k fs = elim (list_any (decides k) fs) as (λ b. IsFree x (cond b (deciding k) (united k fs)) → Any (IsFree x) fs) [ true ↦ λ h. absurd (free_deciding k h) | false ↦ free_closed k fs ]
 
   free_joint : (k : Connective) (fs : List Formula) → IsFree x (joint k fs) → Any (IsFree x) fs
   free_joint k fs h = Any-steps (IsFree x) k (free_one k) (free_own k) fs (free_decided k (steps k fs) h)
@@ -183,11 +184,11 @@ neutral_weight : (k : Connective) → weight (neutral k) ≡ 0
 neutral_weight Conjunction = refl
 neutral_weight Disjunction = refl
 
-connected_weight : (k : Connective) (fs : List Formula) → weight (connected k fs) ≡ count_each (trees_of fs)
+connected_weight : (k : Connective) (fs : List Formula) → weight (under k fs) ≡ count_each (trees_of fs)
 connected_weight Conjunction fs = refl
 connected_weight Disjunction fs = refl
 
-closed_at_most : (k : Connective) (fs : List Formula) → sum_of count fs ≤ sum_of (part_weight k) fs → weight (closed k fs) ≤ sum_of (part_weight k) fs
+closed_at_most : (k : Connective) (fs : List Formula) → sum_of count fs ≤ sum_of (part_weight k) fs → weight (united k fs) ≤ sum_of (part_weight k) fs
 closed_at_most k [] counts = omega (arith, neutral_weight k)
 closed_at_most k (f ∷ []) counts = omega (arith, weight_at_most f)
 closed_at_most k (f ∷ g ∷ gs) counts = omega (arith, connected_weight k (f ∷ g ∷ gs), count_trees (f ∷ g ∷ gs))
@@ -199,7 +200,7 @@ deciding_weight Disjunction = refl
 decided_at_most : (k : Connective) (fs : List Formula) → weight (decided k fs) ≤ sum_of (part_weight k) fs
 decided_at_most k fs = by_test (list_any (decides k) fs) refl
   where
-    by_test : (b : Bool) → list_any (decides k) fs ≡ b → weight (cond b (deciding k) (closed k fs)) ≤ sum_of (part_weight k) fs
+    by_test : (b : Bool) → list_any (decides k) fs ≡ b → weight (cond b (deciding k) (united k fs)) ≤ sum_of (part_weight k) fs
     by_test true test = omega (arith, deciding_weight k)
     by_test false test = closed_at_most k fs (undecided_sum k fs test)
 

@@ -13,7 +13,8 @@ use Rattle.qe_form.specs.Tree.{trees_of}
 use Rattle.qe_form.specs.Truth.{has_sign}
 use Rattle.qe_simp.specs.declared.connective.Connective.{Connective}
 use Rattle.qe_simp.specs.declared.connective.Connective.TheVariants.{Conjunction, Disjunction}
-use Rattle.qe_simp.specs.Simplified.{truth, as_number, on_number, simplified_atom, deciding, connected, joined_signs, listed, parts_in, as_one, decides, closed, decided, joint, simplified, simplified_each}
+use Rattle.qe_form.specs.Making.{constant as truth}
+use Rattle.qe_simp.specs.Simplified.{as_number, on_number, simplified_atom, deciding, under, joined_signs, listed, parts_in, as_one, decides, united, decided, joint, simplified, simplified_each}
 use Rattle.qe_simp.specs.Shape.{IsPrimitive, EachAtom, EachAtomOf}
 use Rattle.qe_simp.proofs.Lists.{listed_back}
 use Rattle.qe_simp.proofs.Atoms.{primitive_is}
@@ -157,14 +158,14 @@ parts_stable k (f ∷ fs) pieces test = by_first (parts_stable k fs pieces.1) (d
     by_first again true first neither = absurd (cc)
     by_first again false first rest = let w = stable_piece k f pieces.0 first in (w.0, w.1, again rest)
 
-whole_again : (k : Connective) (fs : List Formula) → Ascending fs → list_any (decides k) fs ≡ false → whole k fs ≡ closed k fs
-whole_again k fs ascending test = ap (decided k) (ordered_again k fs ascending) ∙ ap (λ b. cond b (deciding k) (closed k fs)) test
+whole_again : (k : Connective) (fs : List Formula) → Ascending fs → list_any (decides k) fs ≡ false → whole k fs ≡ united k fs
+whole_again k fs ascending test = ap (decided k) (ordered_again k fs ascending) ∙ ap (λ b. cond b (deciding k) (united k fs)) test
 
-stable_connected : (k : Connective) (fs : List Formula) → StableParts k (trees_of fs) → whole k fs ≡ connected k fs → Stable (connected k fs)
+stable_connected : (k : Connective) (fs : List Formula) → StableParts k (trees_of fs) → whole k fs ≡ under k fs → Stable (under k fs)
 stable_connected Conjunction fs parts same = (parts, ap (whole Conjunction) (listed_back fs) ∙ same)
 stable_connected Disjunction fs parts same = (parts, ap (whole Disjunction) (listed_back fs) ∙ same)
 
-stable_closed : (k : Connective) (fs : List Formula) → StableParts k (trees_of fs) → whole k fs ≡ closed k fs → Stable (closed k fs)
+stable_closed : (k : Connective) (fs : List Formula) → StableParts k (trees_of fs) → whole k fs ≡ united k fs → Stable (united k fs)
 stable_closed Conjunction [] parts same = tt
 stable_closed Disjunction [] parts same = tt
 stable_closed k (f ∷ []) parts same = parts.1
@@ -177,7 +178,7 @@ stable_deciding Disjunction = tt
 stable_joint : (k : Connective) (fs : List Formula) → Each Stable fs → Stable (joint k fs)
 stable_joint k fs each = by_test (list_any (decides k) (steps k fs)) refl
   where
-    by_test : (b : Bool) → list_any (decides k) (steps k fs) ≡ b → Stable (cond b (deciding k) (closed k (steps k fs)))
+    by_test : (b : Bool) → list_any (decides k) (steps k fs) ≡ b → Stable (cond b (deciding k) (united k (steps k fs)))
     by_test true test = stable_deciding k
     by_test false test =
         let pieces = steps-Each (Piece k) Stable k (pieces_in k) (one_piece k) fs each in
@@ -189,7 +190,7 @@ piece_own : (k : Connective) (f : Formula) → Piece k f → IsOwn k f
 piece_own k (Atom a) piece = own_atom k a
 piece_own k f piece = piece.0
 
-closed_parts : (k : Connective) (fs : List Formula) → Each (Piece k) fs → parts_in k (closed k fs) ≡ fs
+closed_parts : (k : Connective) (fs : List Formula) → Each (Piece k) fs → parts_in k (united k fs) ≡ fs
 closed_parts Conjunction [] pieces = refl
 closed_parts Disjunction [] pieces = refl
 closed_parts k (f ∷ []) pieces = piece_own k f pieces.0
@@ -197,7 +198,7 @@ closed_parts Conjunction (f ∷ g ∷ gs) pieces = listed_back (f ∷ g ∷ gs)
 closed_parts Disjunction (f ∷ g ∷ gs) pieces = listed_back (f ∷ g ∷ gs)
 
 -- where none decides, the parts of the whole are the merged ones
-pub own_closed : (k : Connective) (fs : List Formula) → Each Stable fs → parts_in k (closed k (steps k fs)) ≡ steps k fs
+pub own_closed : (k : Connective) (fs : List Formula) → Each Stable fs → parts_in k (united k (steps k fs)) ≡ steps k fs
 own_closed k fs each = closed_parts k (steps k fs) (steps-Each (Piece k) Stable k (pieces_in k) (one_piece k) fs each)
 
 whole_atom : (k : Connective) (a : atom.Atom) → IsProper a.signs → whole k (Atom a ∷ []) ≡ Atom a

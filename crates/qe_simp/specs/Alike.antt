@@ -3,7 +3,7 @@ use Rattle.std.specs.Prelude.{List, [], ◌∷◌, ◌++◌}
 use Rattle.std.specs.List.{Contains}
 use Rattle.qe_form.specs.Formula.{Formula}
 use Rattle.qe_simp.specs.declared.connective.Connective.{Connective}
-use Rattle.qe_simp.specs.Simplified.{connected}
+use Rattle.qe_simp.specs.Simplified.{under}
 
 mutual
   -- An And of parts that are an And themselves is the And of all their parts, an And of one part is that part, and it does not
@@ -12,9 +12,9 @@ mutual
     itself : {f : Formula} → Alike f f
     back : {f g : Formula} → Alike f g → Alike g f
     onward : {f g h : Formula} → Alike f g → Alike g h → Alike f h
-    flat : (k : Connective) (fs gs : List Formula) → Alike (connected k (connected k fs ∷ gs)) (connected k (fs ++ gs))
-    alone : (k : Connective) (f : Formula) → Alike (connected k (f ∷ [])) f
-    same_parts : (k : Connective) (fs gs : List Formula) → EachIsAmong fs gs → EachIsAmong gs fs → Alike (connected k fs) (connected k gs)
+    flat : (k : Connective) (fs gs : List Formula) → Alike (under k (under k fs ∷ gs)) (under k (fs ++ gs))
+    alone : (k : Connective) (f : Formula) → Alike (under k (f ∷ [])) f
+    same_parts : (k : Connective) (fs gs : List Formula) → EachIsAmong fs gs → EachIsAmong gs fs → Alike (under k fs) (under k gs)
 
   -- each formula is alike to one of the others
   pub data EachIsAmong : List Formula → List Formula → Type 0 where

@@ -7,16 +7,16 @@ use Rattle.qe_form.specs.Same.{HasNoQuantifier}
 use Rattle.qe_form.specs.Plain.{IsPlain, IsPlainWith, IsPlainAndProper}
 use Rattle.qe_simp.specs.Simplified.{simplified}
 use Rattle.qe_simp.specs.Meaning.{Keeps}
-use Rattle.qe_simp.specs.Shape.{IsSimplified, EachAtom, IsCanonical}
+use Rattle.qe_simp.specs.Shape.{IsSimplified, EachAtom, IsCanonicalAtom}
 use Rattle.qe_simp.specs.Alike.{Alike}
 
 -- where the polynomials are canonical, simplifying keeps truth and falsity, adds no free variable, and leaves at most as many atoms and constants, or one
 abbrev pub SimplifiedKeeps : Type 0
-SimplifiedKeeps = (f : Formula) → EachAtom IsCanonical f → Keeps f (simplified f)
+SimplifiedKeeps = (f : Formula) → EachAtom IsCanonicalAtom f → Keeps f (simplified f)
 
 -- where the polynomials are canonical, simplifying twice is simplifying once
 abbrev pub Idempotent : Type 0
-Idempotent = (f : Formula) → EachAtom IsCanonical f → simplified (simplified f) ≡ simplified f
+Idempotent = (f : Formula) → EachAtom IsCanonicalAtom f → simplified (simplified f) ≡ simplified f
 
 -- formulas that are the same up to the order, the nesting and repeats of parts have one simplified form
 abbrev pub AlikeIsEqual : Type 0
@@ -33,7 +33,7 @@ pub record SamePartsIsEqual : Type 0 where
 
 -- what is known of the simplified form of a plain formula with canonical polynomials
 pub record PlainIsSimplified : Type 0 where
-  pub made : (f : Formula) → IsPlainWith IsCanonical f → IsSimplified (simplified f)
+  pub made : (f : Formula) → IsPlainWith IsCanonicalAtom f → IsSimplified (simplified f)
   pub plain : (f : Formula) → IsSimplified f → IsPlain f
   pub proper : (f : Formula) → IsSimplified f → IsPlainAndProper f
   pub no_quantifier : (f : Formula) → IsSimplified f → HasNoQuantifier f

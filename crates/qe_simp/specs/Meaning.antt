@@ -1,8 +1,6 @@
 -- What simplifying keeps.
-use Rattle.std.specs.Prelude.{ℕ, ◌≤◌, max, ◌≡◌, true, false, Some, None}
-use Rattle.qe_ring.specs.Sign.{Sign, Minus, Zero, Plus}
+use Rattle.std.specs.Prelude.{ℕ, ◌≤◌, max, ◌≡◌, Some, None}
 use Rattle.qe_tower.specs.Point.{Point, IsPoint}
-use Rattle.qe_form.specs.declared.signs.Signs.{Signs}
 use Rattle.qe_form.specs.Formula.{Formula}
 use Rattle.qe_form.specs.Tree.{tree}
 use Rattle.qe_form.specs.Same.{IsFree, Agree}
@@ -22,13 +20,7 @@ pub record Keeps (f g : Formula) : Type 0 where
 abbrev pub AgreesEverywhere : Formula → Formula → Type 0
 AgreesEverywhere f g = (p : Point) → IsPoint p → Agree f g p
 
--- ---- what the code keeps
-
--- the set of one sign
-abbrev pub only : Sign → Signs
-only Minus = record { plus = false; zero = false; minus = true }
-only Zero = record { plus = false; zero = true; minus = false }
-only Plus = record { plus = true; zero = false; minus = false }
+-- ---- what the code makes of two parts
 
 -- the one that two parts are, or both where they are two
 abbrev pub IsJoined : Connective → Formula → Formula → merge.Joined → Type 0

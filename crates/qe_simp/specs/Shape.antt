@@ -44,5 +44,5 @@ abbrev mutual
   EachAtomOf P (more f fs) = EachAtom P f × EachAtomOf P fs
 
 -- the polynomial of the atom is canonical, as that of every atom of the code is
-abbrev pub IsCanonical : atom.Atom → Type 0
-IsCanonical a = IsPolynomial a.poly
+abbrev pub IsCanonicalAtom : atom.Atom → Type 0
+IsCanonicalAtom a = IsPolynomial a.poly

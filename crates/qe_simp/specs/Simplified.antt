@@ -10,6 +10,7 @@ use Rattle.qe_form.specs.declared.signs.Signs.{Signs}
 use Rattle.qe_form.specs.declared.form.Atom as atom
 use Rattle.qe_form.specs.Signs.{bits, union, intersection, mirror}
 use Rattle.qe_form.specs.Formula.{Formula, Formulas, True, False, Atom, And, Or, Not, Implies, Iff, Ex, All, no_more, more}
+use Rattle.qe_form.specs.Making.{constant as truth}
 use Rattle.qe_form.specs.Tree.{trees_of}
 use Rattle.qe_form.specs.Truth.{has_sign}
 use Rattle.qe_form.specs.Order.{formula_cmp}
@@ -17,11 +18,6 @@ use Rattle.qe_simp.specs.declared.connective.Connective.{Connective}
 use Rattle.qe_simp.specs.declared.connective.Connective.TheVariants.{Conjunction, Disjunction}
 
 -- ---- atoms
-
--- the constant that is true, or false
-abbrev pub truth : Bool → Formula
-truth true = True
-truth false = False
 
 -- the number that a polynomial is, where it is one: its coefficient at the monomial 1
 abbrev pub as_number : Polynomial → Option ℤ
@@ -53,9 +49,9 @@ deciding Conjunction = False
 deciding Disjunction = True
 
 -- formulas under the connective
-abbrev pub connected : Connective → List Formula → Formula
-connected Conjunction fs = And (trees_of fs)
-connected Disjunction fs = Or (trees_of fs)
+abbrev pub under : Connective → List Formula → Formula
+under Conjunction fs = And (trees_of fs)
+under Disjunction fs = Or (trees_of fs)
 
 -- the signs that atoms on one polynomial have together
 abbrev pub joined_signs : Connective → Signs → Signs → Signs
@@ -99,9 +95,9 @@ abbrev pub merged_from : Connective → Formula → List Formula → List Formul
 merged_from k f [] = f ∷ []
 merged_from k f (g ∷ gs) = one_or_two (as_one k f g) (λ h. merged_from k h gs) (f ∷ merged_from k g gs)
 
-abbrev pub merged : Connective → List Formula → List Formula
-merged k [] = []
-merged k (f ∷ fs) = merged_from k f fs
+abbrev pub merged_parts : Connective → List Formula → List Formula
+merged_parts k [] = []
+merged_parts k (f ∷ fs) = merged_from k f fs
 
 -- a part decides for the whole: the deciding constant, or an atom that no sign, or each sign, fits
 abbrev pub decides : Connective → Formula → Bool
@@ -112,18 +108,18 @@ decides Disjunction (Atom a) = eqb (bits a.signs) 7
 decides k f = false
 
 -- no part is the neutral constant, and one part is itself
-abbrev pub closed : Connective → List Formula → Formula
-closed k [] = neutral k
-closed k (f ∷ []) = f
-closed k (f ∷ g ∷ gs) = connected k (f ∷ g ∷ gs)
+abbrev pub united : Connective → List Formula → Formula
+united k [] = neutral k
+united k (f ∷ []) = f
+united k (f ∷ g ∷ gs) = under k (f ∷ g ∷ gs)
 
 -- the deciding constant where a part decides, and else the parts
 abbrev pub decided : Connective → List Formula → Formula
-decided k fs = cond (list_any (decides k) fs) (deciding k) (closed k fs)
+decided k fs = cond (list_any (decides k) fs) (deciding k) (united k fs)
 
 -- formulas joined by a connective
 abbrev pub joint : Connective → List Formula → Formula
-joint k fs = decided k (merged k (in_order (flat_map (parts_in k) fs)))
+joint k fs = decided k (merged_parts k (in_order (flat_map (parts_in k) fs)))
 
 -- ---- formulas
 

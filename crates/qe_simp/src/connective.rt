@@ -2,7 +2,7 @@
 
 ghost use Rattle.std.specs.Prelude.{◌≡◌, ◌++◌, map, OnOk};
 ghost use Rattle.qe_form.specs.Tree.{tree};
-ghost use Rattle.qe_simp.specs.Simplified.{neutral, deciding, connected, joined_signs, parts_in, decides};
+ghost use Rattle.qe_simp.specs.Simplified.{neutral, deciding, under, joined_signs, parts_in, decides};
 
 use crate::OutOfMemory;
 use qe_form::{Form, Sequence, Signs};
@@ -40,7 +40,7 @@ impl Connective {
 
     /// The formulas under the connective.
     pub fn connected(self, parts: Vec<Form>) -> Form
-        ensures { tree result ≡ connected self (map tree parts.items) }
+        ensures { tree result ≡ under self (map tree parts.items) }
     {
         match self {
             Connective::Conjunction => Form::And(Sequence::from_vec(parts)),

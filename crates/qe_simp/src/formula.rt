@@ -5,8 +5,8 @@ ghost use Rattle.std.specs.List.{flat_map};
 ghost use Rattle.qe_form.specs.Tree.{tree, trees};
 ghost use Rattle.qe_simp.specs.Meaning.{Keeps};
 ghost use Rattle.qe_form.specs.Plain.{IsPlain};
-ghost use Rattle.qe_simp.specs.Shape.{IsSimplified, EachAtom, EachAtomOf, IsCanonical};
-ghost use Rattle.qe_simp.specs.Simplified.{closed, decided, joint, merged, in_order, parts_in, simplified, simplified_each};
+ghost use Rattle.qe_simp.specs.Shape.{IsSimplified, EachAtom, EachAtomOf, IsCanonicalAtom};
+ghost use Rattle.qe_simp.specs.Simplified.{united, decided, joint, merged_parts, in_order, parts_in, simplified, simplified_each};
 
 use crate::OutOfMemory;
 use crate::atom::simplify_atom;
@@ -16,8 +16,8 @@ use qe_form::{Form, Forms};
 use std::alloc::Global;
 
 /// The formula that the parts are: the neutral constant, one part, or the parts under the connective.
-fn close(mut parts: Vec<Form>, connective: Connective) -> Form
-    ensures { tree result ≡ closed connective (map tree parts.items) }
+fn unite(mut parts: Vec<Form>, connective: Connective) -> Form
+    ensures { tree result ≡ united connective (map tree parts.items) }
 {
     if parts.len() > 1 {
         return connective.connected(parts);
@@ -37,7 +37,7 @@ fn decide(parts: Vec<Form>, connective: Connective) -> Form
             return connective.deciding();
         }
     }
-    close(parts, connective)
+    unite(parts, connective)
 }
 
 /// Sorts the parts, makes neighbours one that are one part, and joins what is left.
@@ -46,7 +46,7 @@ fn join_parts(
     mut parts: Vec<Form>,
     connective: Connective,
 ) -> Result<Form, OutOfMemory>
-    ensures { IfOk result (λ f. tree f ≡ decided connective (merged connective (in_order (map tree parts.items)))) }
+    ensures { IfOk result (λ f. tree f ≡ decided connective (merged_parts connective (in_order (map tree parts.items)))) }
 {
     parts.sort()?;
     Ok(decide(merge(alloc, parts, connective)?, connective))
@@ -56,7 +56,7 @@ fn join_parts(
 #[cycle(simplify)]
 fn simplified_form(alloc: Global, form: Form) -> Result<Form, OutOfMemory>
     ensures exact { IfOk result (λ f. tree f ≡ simplified (tree form)) }
-    ensures canonical { IfOk result (λ _. EachAtom IsCanonical (tree form)) }
+    ensures canonical { IfOk result (λ _. EachAtom IsCanonicalAtom (tree form)) }
 {
     match form {
         Form::Atom(atom) => simplify_atom(alloc, atom),
@@ -82,7 +82,7 @@ fn simplified_form(alloc: Global, form: Form) -> Result<Form, OutOfMemory>
 #[cycle(simplify)]
 fn gather(alloc: Global, forms: Forms, connective: Connective) -> Result<Vec<Form>, OutOfMemory>
     ensures exact { IfOk result (λ v. map tree v.items ≡ flat_map (parts_in connective) (simplified_each (trees forms))) }
-    ensures canonical { IfOk result (λ _. EachAtomOf IsCanonical (trees forms)) }
+    ensures canonical { IfOk result (λ _. EachAtomOf IsCanonicalAtom (trees forms)) }
 {
     let mut parts = Vec::new(alloc);
     for form in forms.into_vec() {
@@ -96,8 +96,8 @@ fn gather(alloc: Global, forms: Forms, connective: Connective) -> Result<Vec<For
 /// primitive with a positive leading coefficient. And and Or take in the parts of parts with their own connective; a part
 /// that decides leaves its constant; constants that change nothing and repeated parts go; atoms on one polynomial become
 /// one, with the signs in both for And and in either for Or; the rest stands in the order of formulas, and a list of one is
-/// its part. Formulas with other connectives stay as they are, and so does a form that is simplified already. `Err` for want
-/// of memory alone.
+/// its part. Formulas with other connectives stay as they are, and so does a form that is simplified already. `Err` only
+/// where memory runs out.
 pub fn simplify(alloc: Global, form: Form) -> Result<Form, OutOfMemory>
     ensures exact { IfOk result (λ f. tree f ≡ simplified (tree form)) }
     ensures kept { IfOk result (λ f. Keeps (tree form) (tree f)) }

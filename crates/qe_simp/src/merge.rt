@@ -3,7 +3,7 @@
 ghost use Rattle.std.specs.Prelude.{◌≡◌, List, [], ◌∷◌, ◌++◌, map, IfOk, OnOk};
 ghost use Rattle.qe_form.specs.Formula.{Formula};
 ghost use Rattle.qe_form.specs.Tree.{tree};
-ghost use Rattle.qe_simp.specs.Simplified.{as_one, merged};
+ghost use Rattle.qe_simp.specs.Simplified.{as_one, merged_parts};
 ghost use Rattle.qe_simp.specs.Meaning.{IsJoined};
 
 use crate::OutOfMemory;
@@ -46,8 +46,8 @@ fn join(connective: Connective, last: Form, next: Form) -> Joined
 
 /// Adds a part to merged parts: as one with the last of them where they are one part.
 fn put(parts: &mut Vec<Form>, part: Form, connective: Connective) -> Result<(), OutOfMemory>
-    ensures { OnOk result ((fs : List Formula) → map tree parts.old.items ≡ merged connective fs
-        → map tree parts.new.items ≡ merged connective (fs ++ tree part ∷ [])) }
+    ensures { OnOk result ((fs : List Formula) → map tree parts.old.items ≡ merged_parts connective fs
+        → map tree parts.new.items ≡ merged_parts connective (fs ++ tree part ∷ [])) }
 {
     let Some(last) = parts.pop() else {
         parts.push(part)?;
@@ -69,7 +69,7 @@ pub fn merge(
     parts: Vec<Form>,
     connective: Connective,
 ) -> Result<Vec<Form>, OutOfMemory>
-    ensures { IfOk result (λ v. map tree v.items ≡ merged connective (map tree parts.items)) }
+    ensures { IfOk result (λ v. map tree v.items ≡ merged_parts connective (map tree parts.items)) }
 {
     let mut merged = Vec::new(alloc);
     for part in parts {

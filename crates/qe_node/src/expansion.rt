@@ -1,63 +1,29 @@
 //! The successors of a node.
 
-ghost use Rattle.std.specs.Prelude.{◌≡◌, ◌≢◌, ◌≤◌, false, true, not, eqb, length, All, AllPairs, IfOk, map};
+ghost use Rattle.std.specs.Prelude.{◌≡◌, ◌≢◌, ◌≤◌, false, true, not, eqb, length, All, AllPairs, IfOk, Some, map};
 ghost use Rattle.qe_form.specs.Measures.{degree};
 ghost use Rattle.qe_form.specs.Plain.{IsPlain, IsPlainAndProper};
 ghost use Rattle.qe_form.specs.Tree.{tree};
 ghost use Rattle.qe_points.specs.Candidates as listed;
+ghost use Rattle.qe_points.specs.Choice.{choice};
 ghost use Rattle.qe_points.specs.Guarded.{HasRoot};
 ghost use Rattle.qe_tree.specs.Sound.{IsFine};
-ghost use Rattle.qe_node.specs.Successors.{given_by, is_true};
-ghost use Rattle.qe_node.specs.Answer.{IsAnswer, others, outcome};
+ghost use Rattle.qe_node.specs.Successors.{as_vars, given_by};
+ghost use Rattle.qe_node.specs.Answer.{IsExpansion, others, expansion_of};
 ghost use Rattle.qe_node.specs.Growth.{IsGrowth, nodes_below};
-ghost use Rattle.qe_node.specs.Truth.{KeepsTruth};
+ghost use Rattle.qe_node.specs.Truth.{KeepsTruth, TruthIsKept};
 
 use crate::trial::{Trial, try_candidate};
-use crate::{Form, Node, NodeStop, OutOfMemory, Sequence, Var, Vars, root};
+use crate::{Form, GrowthLimit, GrowthStop, Node, NodeStop, OutOfMemory, Sequence, Var, Vars, root};
 use qe_piece::{Made, Never, Next, Stop};
 use qe_points::{Candidate, candidates, choose};
-use std::alloc::{AllocError, AllocFailed, Global};
+use std::alloc::Global;
 
-/// Why there are no successors.
+/// The variable that is eliminated from a node, and the node's successors.
 #[derive(Drop)]
-enum GrowthStop {
-    /// The node fails.
-    Failed(NodeStop),
-    /// The stop was told.
-    Stopped,
-    OutOfMemory,
-}
-
-impl From<AllocError> for GrowthStop {
-    ghost use Rattle.std.specs.Prelude.{◌≡◌};
-    ghost use Rattle.qe_node.specs.declared.growth.GrowthStop.{GrowthStop};
-
-    ghost from_gives = { λ _ e. e ≡ GrowthStop.OutOfMemory };
-
-    fn from(_error: AllocError) -> GrowthStop {
-        GrowthStop::OutOfMemory
-    }
-}
-
-impl<T: Drop> From<AllocFailed<T>> for GrowthStop {
-    ghost use Rattle.std.specs.Prelude.{◌≡◌};
-    ghost use Rattle.qe_node.specs.declared.growth.GrowthStop.{GrowthStop};
-
-    ghost from_gives = { λ _ e. e ≡ GrowthStop.OutOfMemory };
-
-    fn from(_error: AllocFailed<T>) -> GrowthStop {
-        GrowthStop::OutOfMemory
-    }
-}
-
-/// Whether the formula is True.
-pub fn is_true(form: &Form) -> bool
-    ensures { result ≡ is_true (tree form.now) }
-{
-    match form {
-        Form::True => true,
-        _ => false,
-    }
+pub struct Grown {
+    pub var: Var,
+    pub successors: Vec<Next<Node>>,
 }
 
 /// Whether the variable is another.
@@ -81,7 +47,7 @@ fn others(alloc: Global, vars: &[Var], x: Var) -> Result<Vars, OutOfMemory>
 }
 
 /// The successors at the candidates of a variable, with those of `vars` that occur in each.
-fn grow<T: Stop>(
+fn try_candidates<T: Stop>(
     alloc: Global,
     vars: &[Var],
     form: &Form,
@@ -101,13 +67,13 @@ fn grow<T: Stop>(
     let mut grown = Vec::new(alloc);
     for (number, candidate) in candidates.iter().enumerate() {
         if stop.stopped() {
-            return Err(GrowthStop::Stopped);
+            return Err(GrowthStop::Limit(GrowthLimit::Stopped));
         }
         match try_candidate(alloc, form, x, candidate, number as u64)? {
-            Trial::Failed(fault) => return Err(GrowthStop::Failed(fault)),
+            Trial::Failed(fault) => return Err(GrowthStop::Limit(GrowthLimit::Failed(fault))),
             Trial::Skipped => {}
             Trial::Given(form) => {
-                let last = is_true(&form);
+                let last = form.is_true();
                 let piece = root(alloc, vars, form)?;
                 grown.push(Next {
                     point: number as u64,
@@ -141,7 +107,27 @@ fn grow_at<T: Stop>(
 {
     let left = others(alloc, vars, x)?;
     let points = candidates(alloc, form, x)?;
-    grow(alloc, left.items(), form, x, &points, stop)
+    try_candidates(alloc, left.items(), form, x, &points, stop)
+}
+
+/// The successors of a node, with the variable that is eliminated. Of the node's variables, in their order, the first of least degree is chosen,
+/// where that degree is at most two; without one the node fails with `DegreeExcess`. All else is said of `expand`, which
+/// tells the successors alone.
+pub fn grow<T: Stop>(alloc: Global, node: &Node, stop: &mut T) -> Result<Grown, GrowthStop>
+    ensures answer { IsGrowth (λ g. g.successors.items) (expansion_of node.now) (T.told stop.new) result }
+    ensures chosen { IfOk result (λ g. choice node.now.form (as_vars node.now.vars) ≡ Some g.var) }
+    ensures truth { IfOk result (λ g. TruthIsKept node.now g.successors.items) }
+    ensures stays { T.told stop.old ≡ true → T.told stop.new ≡ true }
+    ensures basis { T.basis stop.new ≡ T.basis stop.old }
+{
+    let vars = node.vars.items();
+    let Some(var) = choose(&node.form, vars) else {
+        return Err(GrowthStop::Limit(GrowthLimit::Failed(
+            NodeStop::DegreeExcess,
+        )));
+    };
+    let successors = grow_at(alloc, vars, &node.form, var, stop)?;
+    Ok(Grown { var, successors })
 }
 
 /// The successors of a node. Of its variables, in their order, the first of least degree is chosen, where that degree is at most
@@ -152,26 +138,22 @@ fn grow_at<T: Stop>(
 /// `Stopped` comes only where the stop is told when the call ends; it is asked before each candidate. At every point of numbers the
 /// node's formula is true for some values of its variables exactly where that of some successor is so for values of its own.
 pub fn expand<T: Stop>(alloc: Global, node: &Node, stop: &mut T) -> Made<Node>
-    ensures answer { IsAnswer (outcome node.now) (T.told stop.new) result }
+    ensures answer { IsExpansion (expansion_of node.now) (T.told stop.new) result }
     ensures truth { KeepsTruth node.now result }
     ensures stays { T.told stop.old ≡ true → T.told stop.new ≡ true }
     ensures basis { T.basis stop.new ≡ T.basis stop.old }
 {
-    let vars = node.vars.items();
-    let Some(x) = choose(&node.form, vars) else {
-        return Made::Failed(NodeStop::DegreeExcess);
-    };
-    match grow_at(alloc, vars, &node.form, x, stop) {
-        Ok(list) => Made::Successors(list),
-        Err(GrowthStop::Failed(fault)) => Made::Failed(fault),
-        Err(GrowthStop::Stopped) => Made::Stopped,
+    match grow(alloc, node, stop) {
+        Ok(grown) => Made::Successors(grown.successors),
+        Err(GrowthStop::Limit(GrowthLimit::Failed(fault))) => Made::Failed(fault),
+        Err(GrowthStop::Limit(GrowthLimit::Stopped)) => Made::Stopped,
         Err(GrowthStop::OutOfMemory) => Made::OutOfMemory,
     }
 }
 
 /// The successors of a node, as `expand` gives them where nobody tells it to stop.
 pub fn successors(alloc: Global, node: &Node) -> Made<Node>
-    ensures { IsAnswer (outcome node.now) false result }
+    ensures { IsExpansion (expansion_of node.now) false result }
 {
     expand(alloc, node, &mut Never)
 }

@@ -1,7 +1,7 @@
 use Rattle.std.proofs.Common.{length, arith, ◌<◌, ◌∙◌, not, eqb}
 use Rattle.qe_node.proofs.Remaining.{one_more, none_more}
-use Rattle.qe_node.proofs.growth.others.Goals as goal
-use Rattle.qe_node.proofs.growth.others.Goals.{then-is_other+in_ok-push, else-is_other}
+use Rattle.qe_node.proofs.expansion.others.Goals as goal
+use Rattle.qe_node.proofs.expansion.others.Goals.{then-is_other+in_ok-push, else-is_other}
 
 pub loop-var-preserved : goal.loop-var-preserved
 loop-var-preserved c =

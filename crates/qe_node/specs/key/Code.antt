@@ -1,11 +1,12 @@
 -- The key of a node: its variables and its formula as one list of numbers, from which both are read back.
-use Rattle.std.specs.Prelude.{ℕ, suc, zero, ℤ, pos, negsuc, Bool, true, false, List, [], ◌∷◌, ◌++◌}
+use Rattle.std.specs.Prelude.{ℕ, suc, zero, ℤ, pos, negsuc, Bool, true, false, not, eqb, List, [], ◌∷◌, ◌++◌}
 use Rattle.qe_poly.specs.declared.monomial.Power.{Power}
 use Rattle.qe_poly.specs.Polynomial.{Term}
 use Rattle.qe_form.specs.declared.signs.Signs.{Signs}
 use Rattle.qe_form.specs.declared.form.Atom as atom
 use Rattle.qe_form.specs.Signs.{bit}
 use Rattle.qe_form.specs.Formula.{Formula, Formulas, True, False, Atom, And, Or, Not, Implies, Iff, Ex, All, no_more, more}
+use Rattle.qe_node.specs.Node.{Sight}
 
 -- ---- numbers nested in pairs
 
@@ -14,9 +15,9 @@ pub data Nest : Type 0 where
   two : Nest → Nest → Nest
 
 -- a nest as a list of numbers: one more than a number, and 0 before the two parts of a pair
-abbrev pub spelled : Nest → List ℕ
-spelled (one n) = suc n ∷ []
-spelled (two s t) = 0 ∷ (spelled s ++ spelled t)
+abbrev pub flattened : Nest → List ℕ
+flattened (one n) = suc n ∷ []
+flattened (two s t) = 0 ∷ (flattened s ++ flattened t)
 
 -- the first two of the nests as a pair
 abbrev pub paired : List Nest → List Nest
@@ -24,15 +25,15 @@ paired [] = []
 paired (s ∷ []) = []
 paired (s ∷ t ∷ rest) = two s t ∷ rest
 
--- one more number before nests that are read
-abbrev pub entered : ℕ → List Nest → List Nest
-entered zero rest = paired rest
-entered (suc n) rest = one n ∷ rest
+-- one more number before the nests that were read: 0 makes a pair of the first two
+abbrev pub pushed : ℕ → List Nest → List Nest
+pushed zero rest = paired rest
+pushed (suc n) rest = one n ∷ rest
 
--- the nests that numbers spell, read from the end
+-- the nests of a list of numbers, read from its end
 abbrev pub nests : List ℕ → List Nest
 nests [] = []
-nests (n ∷ ns) = entered n (nests ns)
+nests (n ∷ ns) = pushed n (nests ns)
 
 abbrev pub first_nest : List Nest → Nest
 first_nest [] = one 0
@@ -63,12 +64,8 @@ list_in back (two s t) = back s ∷ list_in back t
 abbrev pub bool_nest : Bool → Nest
 bool_nest b = one (bit b)
 
-abbrev pub is_one : ℕ → Bool
-is_one zero = false
-is_one (suc n) = true
-
 abbrev pub bool_in : Nest → Bool
-bool_in s = is_one (number_in s)
+bool_in s = not (eqb (number_in s) 0)
 
 abbrev pub integer_nest : ℤ → Nest
 integer_nest (pos n) = two (one 0) (one n)
@@ -167,10 +164,17 @@ formula_in s = (either_in s).0
 -- ---- nodes
 
 abbrev pub key : List ℕ → Formula → List ℕ
-key variables f = spelled (two (list_nest one variables) (formula_nest f))
+key variables f = flattened (two (list_nest one variables) (formula_nest f))
 
 abbrev pub variables_of : List ℕ → List ℕ
 variables_of ns = list_in number_in (left_in (first_nest (nests ns)))
 
-abbrev pub formula_of : List ℕ → Formula
-formula_of ns = formula_in (right_in (first_nest (nests ns)))
+abbrev pub form_of : List ℕ → Formula
+form_of ns = formula_in (right_in (first_nest (nests ns)))
+
+-- the key of a node, and the node that a list of numbers codes
+abbrev pub sight_key : Sight → List ℕ
+sight_key n = key n.vars n.form
+
+abbrev pub sight_of : List ℕ → Sight
+sight_of k = record { vars = variables_of k; form = form_of k }

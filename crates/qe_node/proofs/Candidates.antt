@@ -18,7 +18,8 @@ use Rattle.qe_subst.specs.Substituted.{substituted}
 use Rattle.qe_subst.specs.Stop.{stop}
 use Rattle.qe_tree.specs.Sound.{Each, forms_of}
 use Rattle.qe_node.specs.declared.stop.NodeStop.{NodeStop}
-use Rattle.qe_node.specs.Successors.{is_false, is_true, Tried, fails, skipped, gives, after_stop, joined, put_in, after_limit, tried, before, and_then, given_by}
+use Rattle.qe_form.specs.Making.{is_false, is_true}
+use Rattle.qe_node.specs.Successors.{Tried, fails, skipped, gives, after_stop, joined, put_in, after_limit, tried, before, and_then, given_by}
 
 -- ---- tests
 

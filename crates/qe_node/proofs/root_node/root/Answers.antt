@@ -1,7 +1,7 @@
 use Rattle.std.proofs.Common.{refl}
 use Rattle.qe_form.specs.Tree.{tree}
 use Rattle.qe_node.proofs.Remaining.{numbers, node_of}
-use Rattle.qe_node.proofs.start.root.Goals as goal
+use Rattle.qe_node.proofs.root_node.root.Goals as goal
 
 pub invariant_of-result : goal.invariant_of-result
 invariant_of-result c =

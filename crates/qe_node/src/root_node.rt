@@ -4,18 +4,10 @@ ghost use Rattle.std.specs.Prelude.{◌≡◌, ◌≢◌, ◌<◌, ◌≤◌, �
 ghost use Rattle.qe_form.specs.Measures.{count};
 ghost use Rattle.qe_form.specs.Plain.{IsPlainAndProper};
 ghost use Rattle.qe_form.specs.Tree.{tree};
-ghost use Rattle.qe_form.specs.Measures.{occurs};
 ghost use Rattle.qe_tree.specs.Variables.{remaining};
 
 use crate::{Form, Node, OutOfMemory, Sequence, Var, Vars};
 use std::alloc::Global;
-
-/// Whether the variable occurs in the formula.
-fn occurs(form: &Form, var: Var) -> bool
-    ensures { result ≡ occurs var.0 (tree form.now) }
-{
-    form.has(var)
-}
 
 /// Those of the variables that occur in a formula, in their order.
 fn remaining(alloc: Global, vars: &[Var], form: &Form) -> Result<Vars, OutOfMemory>
@@ -23,7 +15,7 @@ fn remaining(alloc: Global, vars: &[Var], form: &Form) -> Result<Vars, OutOfMemo
 {
     let mut left = Sequence::new(alloc);
     for var in vars {
-        if occurs(form, *var) {
+        if form.has(*var) {
             left.push(*var)?;
         }
     }
@@ -32,7 +24,7 @@ fn remaining(alloc: Global, vars: &[Var], form: &Form) -> Result<Vars, OutOfMemo
 
 /// The node of a formula: with those of the variables that occur in it, in their order. The variables are distinct, and at most
 /// 65,536; the formula is plain, with sets of signs that are neither empty nor full, and has fewer than 2^50 atoms and constants.
-/// `Err` for want of memory alone.
+/// `Err` only where memory runs out.
 pub fn root(alloc: Global, vars: &[Var], form: Form) -> Result<Node, OutOfMemory>
     requires distinct { AllPairs (λ x y. x ≢ y) (map (λ v. v.0) vars.now) }
     requires short { length vars.now ≤ 65536 }
