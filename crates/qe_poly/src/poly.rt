@@ -78,7 +78,8 @@ impl Poly {
         Ok(Poly { terms })
     }
 
-    /// The polynomial with these terms, which go from the greatest monomial to the least, and none of which has the coefficient 0.
+    /// The polynomial with these terms, which go from the greatest monomial to the least. None has the
+    /// coefficient 0.
     pub fn of_terms(terms: Vec<Term>) -> Poly
         requires { spec.IsPolynomial (map shown terms.items) }
         ensures { result ≡ map shown terms.items }
