@@ -78,6 +78,15 @@ impl Poly {
         Ok(Poly { terms })
     }
 
+    /// The polynomial with these terms, which go from the greatest monomial to the least. None has the
+    /// coefficient 0.
+    pub fn of_terms(terms: Vec<Term>) -> Poly
+        requires { spec.IsPolynomial (map shown terms.items) }
+        ensures { result ≡ map shown terms.items }
+    {
+        Poly { terms }
+    }
+
     /// The same polynomial in memory of its own.
     pub fn copy(&self, alloc: Global) -> Result<Poly, AllocError>
         ensures { IfOk result (λ p. p ≡ self.now) }

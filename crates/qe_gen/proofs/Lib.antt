@@ -1,0 +1,3 @@
+mod Polynomials
+mod Forms
+mod Numbering
