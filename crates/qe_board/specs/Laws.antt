@@ -1,0 +1,60 @@
+-- The laws of runs of the container machine, whatever the pieces are.
+use Rattle.std.specs.Prelude.{ℕ, ◌≡◌, ◌≤◌, ◌+◌, ◌*◌, Bool, true, false, cond, eqb, List, [], ◌∷◌, length}
+use Rattle.qe_piece.specs.Meaning.{Meaning}
+use Rattle.qe_board.specs.declared.event.Event.{Event}
+use Rattle.qe_board.specs.declared.event.Event.TheVariants.{Take, Give, Fail, Drop, Cancel, Fill, Starve}
+use Rattle.qe_board.specs.declared.event.Stopping.{Stopping}
+use Rattle.qe_board.specs.declared.event.Stopping.TheVariants.{Unset, Truth, Limit, Memory}
+use Rattle.qe_board.specs.State.{Key, State, is_waiting, count, is_done, has_true_leaf}
+use Rattle.qe_board.specs.Machine.{is_enabled, effect, IsRunFrom, IsRun, replay}
+
+-- no event takes an entry
+abbrev pub TakesNone : List Event → Type 0
+TakesNone [] = Unit {0}
+TakesNone (Take w n ∷ es) = ⊥
+TakesNone (e ∷ es) = TakesNone es
+
+-- how often an entry is taken
+abbrev pub takes : ℕ → List Event → ℕ
+takes n [] = 0
+takes n (Take w m ∷ es) = cond (eqb m n) 1 0 + takes n es
+takes n (e ∷ es) = takes n es
+
+-- What a stop means: nothing waits, and a leaf is true at truth and none is at limit and memory.
+abbrev pub StopMeans : Stopping → (waiting : ℕ) → (true_leaf : Bool) → Type 0
+StopMeans Unset n t = Unit {0}
+StopMeans Truth n t = (n ≡ 0) × (t ≡ true)
+StopMeans Limit n t = (n ≡ 0) × (t ≡ false)
+StopMeans Memory n t = (n ≡ 0) × (t ≡ false)
+
+module _ {F : Type 0} (meaning : Key → Meaning F) (is_leaf truth : Key → Bool) (limit : ℕ) where
+  -- after a leaf became true nothing is taken
+  abbrev pub TruthEndsTaking : Type 0
+  TruthEndsTaking = (s : State F) (es : List Event) → has_true_leaf truth s ≡ true → IsRunFrom meaning is_leaf truth limit s es → TakesNone es
+
+  -- each entry is taken at most once
+  abbrev pub TakenOnce : Type 0
+  TakenOnce = (root : Key) (es : List Event) → IsRun meaning is_leaf truth limit root es → (n : ℕ) → takes n es ≤ 1
+
+  -- there are at most two events an entry, and one more
+  abbrev pub FewEvents : Type 0
+  FewEvents = (root : Key) (es : List Event) → IsRun meaning is_leaf truth limit root es
+      → length es ≤ 2 * length (replay meaning is_leaf truth limit root es).entries + 1
+
+  -- once the stop is set nothing waits, and what it says of true leaves is so
+  abbrev pub StopsMean : Type 0
+  StopsMean = (root : Key) (es : List Event) → IsRun meaning is_leaf truth limit root es
+      → let s = replay meaning is_leaf truth limit root es in StopMeans s.stop (count is_waiting s.entries) (has_true_leaf truth s)
+
+  -- what is done stays done
+  abbrev pub DoneStays : Type 0
+  DoneStays = (s : State F) (e : Event) → is_done s ≡ true → is_enabled meaning is_leaf truth limit e s ≡ true
+      → is_done (effect meaning is_leaf truth limit e s) ≡ true
+
+  -- all of them
+  pub record RunLaws : Type 0 where
+    pub truth_ends_taking : TruthEndsTaking
+    pub taken_once : TakenOnce
+    pub few_events : FewEvents
+    pub stops_mean : StopsMean
+    pub done_stays : DoneStays
