@@ -1,2 +1,4 @@
 pub mod Conditions
 pub mod Runs
+pub mod Keys
+pub mod Walks
