@@ -63,3 +63,95 @@ any_from truth k (p ∷ ps) (inr h) holds = right (truth p.key) (any_from truth 
     right : {t : Bool} (b : Bool) → t ≡ true → (b || t) ≡ true
     right true e = refl
     right false e = e
+
+-- ---- the whole tree
+
+-- what holds of all holds of each
+all_below : (P : Key → Type 0) (cs : List Child) → All (λ c. P c.key) cs → (x : Key) → IsIn x (child_keys cs) → P x
+all_below P [] all x h = absurd h
+all_below P (c ∷ cs) all x (inl e) = subst P (sym e) (all 0 c (omega arith))
+all_below P (c ∷ cs) all x (inr h) = all_below P cs (λ k d less. all (suc k) d (omega (arith, less))) x h
+
+module _ {F : Type 0} (meaning : Key → Meaning F) (is_leaf truth : Key → Bool) (height : Key → ℕ) where
+  abbrev under : Key → List Child
+  under = below meaning is_leaf truth height
+
+  abbrev walked : ℕ → List ℕ → Key → List Spot
+  walked = walk meaning is_leaf truth height
+
+  -- the places below a piece
+  abbrev walked_each : ℕ → List ℕ → List Child → List Spot
+  walked_each n path cs = flat_map (λ c. walked n (path ++ c.point ∷ []) c.key) cs
+
+  -- keys that have the successors of each of them
+  abbrev pub Closed : List Key → Type 0
+  Closed ks = (k : Key) → IsIn k ks → Within (child_keys (under k)) ks
+
+  each_within : (ks : List Key) (n : ℕ) (path : List ℕ) → ((p : List ℕ) (k : Key) → IsIn k ks → Within (spot_keys (walked n p k)) ks)
+      → (cs : List Child) → Within (child_keys cs) ks → Within (spot_keys (walked_each n path cs)) ks
+  each_within ks n path again [] within k h = absurd h
+  each_within ks n path again (c ∷ cs) within k h =
+      elim (in_append k (spot_keys (walked n (path ++ c.point ∷ []) c.key)) (spot_keys (walked_each n path cs)) (subst (IsIn k) (keys_append (walked n (path ++ c.point ∷ []) c.key) (walked_each n path cs)) h)) [
+        | inl l ↦ again (path ++ c.point ∷ []) c.key (within c.key (inl refl)) k l
+        | inr r ↦ each_within ks n path again cs (λ j i. within j (inr i)) k r
+      ]
+
+  pub walk_within : (ks : List Key) → Closed ks → (n : ℕ) (path : List ℕ) (k : Key) → IsIn k ks → Within (spot_keys (walked n path k)) ks
+  walk_within ks closed zero path k h j i = elim i [ inl e ↦ subst (λ x. IsIn x ks) (sym e) h | inr none ↦ absurd none ]
+  walk_within ks closed (suc n) path k h j i = elim i [
+    | inl e ↦ subst (λ x. IsIn x ks) (sym e) h
+    | inr later ↦ each_within ks n path (λ p x y. walk_within ks closed n p x y) (under k) (closed k h) j later
+  ]
+
+  -- ---- its pieces have their successors among them
+
+  module _ (falls : Falls meaning is_leaf truth height) where
+    lower : (k x : Key) → IsIn x (child_keys (under k)) → height x < height k
+    lower k x h = elim (is_leaf k) as (λ b. is_leaf k ≡ b → IsIn x (child_keys (cond b [] (successors_of meaning is_leaf truth height (meaning k)))) → height x < height k) [
+      | true ↦ λ leaf i. absurd i
+      | false ↦ λ inner. by_meaning (meaning k) (falls k inner)
+    ] refl h
+      where
+        by_meaning : (m : Meaning F) → Descends height (height k) m → IsIn x (child_keys (successors_of meaning is_leaf truth height m)) → height x < height k
+        by_meaning (gives cs) all i = all_below (λ y. height y < height k) cs all x i
+        by_meaning (fails f) all i = absurd i
+
+    stands_first : (n : ℕ) (path : List ℕ) (k : Key) → IsIn k (spot_keys (walked n path k))
+    stands_first zero path k = inl refl
+    stands_first (suc n) path k = inl refl
+
+    in_each : (n : ℕ) (path : List ℕ) (cs : List Child) (x : Key) → IsIn x (child_keys cs) → IsIn x (spot_keys (walked_each n path cs))
+    in_each n path [] x h = absurd h
+    in_each n path (c ∷ cs) x h = subst (IsIn x) (sym (keys_append (walked n (path ++ c.point ∷ []) c.key) (walked_each n path cs))) (elim h [
+      | inl e ↦ in_left x _ _ (subst (λ y. IsIn x (spot_keys (walked n (path ++ c.point ∷ []) y))) e (stands_first n (path ++ c.point ∷ []) x))
+      | inr later ↦ in_right x (spot_keys (walked n (path ++ c.point ∷ []) c.key)) _ (in_each n path cs x later)
+    ])
+
+    abbrev ClosedFrom : ℕ → List Spot → Type 0
+    ClosedFrom n ps = (j : Key) → IsIn j (spot_keys ps) → Within (child_keys (under j)) (spot_keys ps)
+
+    each_closed : (n : ℕ) (path : List ℕ) → ((p : List ℕ) (k : Key) → height k ≤ n → ClosedFrom n (walked n p k))
+        → (cs : List Child) → ((x : Key) → IsIn x (child_keys cs) → height x ≤ n) → ClosedFrom n (walked_each n path cs)
+    each_closed n path again [] low j h x i = absurd h
+    each_closed n path again (c ∷ cs) low j h x i =
+        let here = walked n (path ++ c.point ∷ []) c.key in let rest = walked_each n path cs in
+        subst (IsIn x) (sym (keys_append here rest)) (elim (in_append j (spot_keys here) (spot_keys rest) (subst (IsIn j) (keys_append here rest) h)) [
+          | inl l ↦ in_left x (spot_keys here) (spot_keys rest) (again (path ++ c.point ∷ []) c.key (low c.key (inl refl)) j l x i)
+          | inr r ↦ in_right x (spot_keys here) (spot_keys rest) (each_closed n path again cs (λ y k. low y (inr k)) j r x i)
+        ])
+
+    pub walk_closed : (n : ℕ) (path : List ℕ) (k : Key) → height k ≤ n → ClosedFrom n (walked n path k)
+    walk_closed zero path k low j h x i = elim h [
+      | inl e ↦ absurd (let less = lower j x i in let same = ap height e in omega (arith, low, less, same))
+      | inr none ↦ absurd none
+    ]
+    walk_closed (suc n) path k low j h x i = elim h [
+      | inl e ↦ inr (in_each n path (under k) x (subst (λ y. IsIn x (child_keys (under y))) e i))
+      | inr later ↦ inr (each_closed n path (λ p y l. walk_closed n p y l) (under k) (λ y m. (let less = lower k y m in omega (arith, low, less))) j later x i)
+    ]
+
+    pub spots_closed : (root : Key) → Closed (spot_keys (spots meaning is_leaf truth height root))
+    spots_closed root k h = walk_closed (height root) [] root (omega arith) k h
+
+    pub root_stands : (root : Key) → IsIn root (spot_keys (spots meaning is_leaf truth height root))
+    root_stands root = stands_first (height root) [] root
