@@ -2,3 +2,4 @@ pub mod Conditions
 pub mod Runs
 pub mod Keys
 pub mod Walks
+pub mod Sound

@@ -1,5 +1,5 @@
 -- The laws of runs of the container machine, whatever the pieces are.
-use Rattle.std.specs.Prelude.{ℕ, ◌≡◌, ◌≤◌, ◌+◌, ◌*◌, Bool, true, false, cond, eqb, List, [], ◌∷◌, length}
+use Rattle.std.specs.Prelude.{ℕ, ◌≡◌, ◌≤◌, ◌<◌, ◌+◌, ◌*◌, ◌⊎◌, Bool, true, false, cond, eqb, List, [], ◌∷◌, length}
 use Rattle.qe_piece.specs.Meaning.{Meaning}
 use Rattle.qe_board.specs.declared.event.Event.{Event}
 use Rattle.qe_board.specs.declared.event.Event.TheVariants.{Take, Give, Fail, Drop, Cancel, Fill, Starve}
@@ -7,6 +7,8 @@ use Rattle.qe_board.specs.declared.event.Stopping.{Stopping}
 use Rattle.qe_board.specs.declared.event.Stopping.TheVariants.{Unset, Truth, Limit, Memory}
 use Rattle.qe_board.specs.State.{Key, State, is_waiting, count, is_done, has_true_leaf}
 use Rattle.qe_board.specs.Machine.{is_enabled, effect, IsRunFrom, IsRun, replay}
+use Rattle.qe_board.specs.Tree.{nodes, has_truth, verdict, Falls}
+use Rattle.qe_board.specs.Verdict.{verdict_in}
 
 -- no event takes an entry
 abbrev pub TakesNone : List Event → Type 0
@@ -58,3 +60,42 @@ module _ {F : Type 0} (meaning : Key → Meaning F) (is_leaf truth : Key → Boo
     pub few_events : FewEvents
     pub stops_mean : StopsMean
     pub done_stays : DoneStays
+
+-- ---- runs and the tree
+
+module _ {F : Type 0} (meaning : Key → Meaning F) (is_leaf truth : Key → Bool) (height : Key → ℕ) (limit : ℕ) where
+  abbrev last : Key → List Event → State F
+  last root es = replay meaning is_leaf truth limit root es
+
+  abbrev Runs : Key → List Event → Type 0
+  Runs root es = IsRun meaning is_leaf truth limit root es
+
+  abbrev size : Key → ℕ
+  size root = length (nodes meaning is_leaf truth height root)
+
+  -- every done run that ends with no stop, or with truth, has the verdict of the tree
+  abbrev pub OneVerdict : Type 0
+  OneVerdict = (root : Key) (es : List Event) → Runs root es → is_done (last root es) ≡ true
+      → ((last root es).stop ≡ Unset) ⊎ ((last root es).stop ≡ Truth)
+      → verdict_in meaning is_leaf truth height root (last root es) ≡ verdict meaning is_leaf truth height root
+
+  -- a stop by the limit comes only where the tree has more than that number of distinct pieces
+  abbrev pub LimitMeans : Type 0
+  LimitMeans = (root : Key) (es : List Event) → Runs root es → (last root es).stop ≡ Limit → limit < size root
+
+  -- a done run over a tree that has more, and no true piece, ends with limit or memory
+  abbrev pub TooManyStop : Type 0
+  TooManyStop = (root : Key) (es : List Event) → Runs root es → is_done (last root es) ≡ true → limit < size root
+      → has_truth meaning is_leaf truth height (nodes meaning is_leaf truth height root) ≡ false
+      → ((last root es).stop ≡ Limit) ⊎ ((last root es).stop ≡ Memory)
+
+  -- there are at most the limit's number of entries, all distinct pieces of the tree
+  abbrev pub FewEntries : Type 0
+  FewEntries = (root : Key) (es : List Event) → Runs root es → length (last root es).entries ≤ limit
+
+  -- all of them
+  pub record TreeLaws : Type 0 where
+    pub one_verdict : OneVerdict
+    pub limit_means : LimitMeans
+    pub too_many_stop : TooManyStop
+    pub few_entries : FewEntries

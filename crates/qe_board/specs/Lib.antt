@@ -1,4 +1,5 @@
 pub mod State
 pub mod Machine
 pub mod Tree
+pub mod Verdict
 pub mod Laws
