@@ -1,4 +1,4 @@
-use Rattle.qe_board.proofs.Sound.{IsSound, AreFit}
+use Rattle.qe_board.proofs.Sound.{IsSound, AreFit, sound_run}
 use Rattle.qe_board.proofs.laws.runs_in_a_tree.Goals as goal
 
 pub returns : goal.returns
