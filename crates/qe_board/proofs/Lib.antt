@@ -3,3 +3,4 @@ pub mod Runs
 pub mod Keys
 pub mod Walks
 pub mod Sound
+pub mod Verdicts
