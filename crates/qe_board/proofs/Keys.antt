@@ -1,16 +1,12 @@
 -- Keys in lists: whether one is among them, new ones, and how many different ones there are.
-use Rattle.std.proofs.Common.{ℕ, zero, suc, ◌+◌, ◌≤◌, ◌<◌, ◌≡◌, ◌≢◌, ◌∙◌, ◌⊎◌, inl, inr, ◌↔◌, refl, sym, ap, subst, Bool, true, false, cond, ◌||◌, List, [], ◌∷◌, ◌++◌, length, map, arith}
+use Rattle.std.proofs.Common.{ℕ, zero, suc, ◌+◌, ◌≤◌, ◌<◌, ◌≡◌, ◌≢◌, ◌∙◌, ◌⊎◌, inl, inr, ◌↔◌, refl, sym, ap, subst, Bool, true, false, cond, ◌||◌, List, [], ◌∷◌, ◌++◌, length, map, Some, slice_get, arith}
 use Rattle.std.specs.Prelude.{IsTrue}
 use lib.Pointwise.{bytes_decides}
 use Rattle.qe_ring.proofs.Bools.{either_tells, never_tells}
-use Rattle.qe_board.specs.State.{Key}
-use Rattle.qe_board.specs.Machine.{same_key, is_among, new_keys}
+use Rattle.qe_board.specs.State.{Key, IsIn, Distinct}
+use Rattle.qe_board.specs.Machine.{same_key, is_among, new_keys, number_of}
 
 -- ---- membership
-
-abbrev pub IsIn : Key → List Key → Type 0
-IsIn k [] = ⊥
-IsIn k (j ∷ js) = (k ≡ j) ⊎ IsIn k js
 
 abbrev pub Within : List Key → List Key → Type 0
 Within xs ys = (k : Key) → IsIn k xs → IsIn k ys
@@ -45,10 +41,6 @@ append_assoc (x ∷ xs) ys zs = ap (λ t. x ∷ t) (append_assoc xs ys zs)
 
 -- ---- distinct keys
 
-abbrev pub Distinct : List Key → Type 0
-Distinct [] = Unit {0}
-Distinct (k ∷ ks) = (IsIn k ks → ⊥) × Distinct ks
-
 pub distinct_end : (xs : List Key) (k : Key) → Distinct xs → (IsIn k xs → ⊥) → Distinct (xs ++ k ∷ [])
 distinct_end [] k distinct apart = ((λ h. h), tt)
 distinct_end (x ∷ xs) k distinct apart = (
@@ -68,7 +60,7 @@ all_known known [] k h = absurd h
 all_known known (j ∷ js) k h = by_among (λ ns. IsIn k (known ++ ns)) known js j
     (λ old. elim h [ inl e ↦ in_left k known _ (subst (λ x. IsIn x known) (sym e) ((among_tells j known).0 old)) | inr later ↦ all_known known js k later ])
     (λ new. subst (IsIn k) (append_assoc known (j ∷ []) (new_keys (known ++ j ∷ []) js))
-      (elim h [ inl e ↦ in_left k (known ++ j ∷ []) _ (in_right k known (j ∷ []) (inl e)) | inr later ↦ all_known (known ++ j ∷ []) js k later ]))
+    (elim h [ inl e ↦ in_left k (known ++ j ∷ []) _ (in_right k known (j ∷ []) (inl e)) | inr later ↦ all_known (known ++ j ∷ []) js k later ]))
 
 -- a new one is one of those that come
 pub new_from : (known ks : List Key) → Within (new_keys known ks) ks
@@ -112,3 +104,22 @@ no_more_than [] ys distinct within = omega arith
 no_more_than (x ∷ xs) ys distinct within =
     let rest = no_more_than xs (remove x ys) distinct.1 (λ k h. in_remove x k ys (λ e. distinct.0 (subst (λ z. IsIn z xs) e h)) (within k (inr h))) in
     let less = length_remove x ys (within x (inl refl)) in omega (arith, rest, less)
+
+-- ---- the number of a key
+
+pub number_stands : (k : Key) (ks : List Key) → IsIn k ks → slice_get ks (number_of k ks) ≡ Some k
+number_stands k [] h = absurd h
+number_stands k (j ∷ js) h = elim (same_key k j) as (λ b. same_key k j ≡ b → slice_get (j ∷ js) (cond b 0 (suc (number_of k js))) ≡ Some k) [
+  | true ↦ λ same. ap (λ x. Some x) (sym ((same_tells k j).0 same))
+  | false ↦ λ other. elim h [ inl e ↦ absurd (let same = (same_tells k j).1 e in cc) | inr later ↦ number_stands k js later ]
+] refl
+
+pub stands_in : (n : ℕ) (k : Key) (ks : List Key) → slice_get ks n ≡ Some k → IsIn k ks
+stands_in n k [] h = absurd (cc)
+stands_in zero k (j ∷ js) h = inl (let e = h in cc)
+stands_in (suc n) k (j ∷ js) h = inr (stands_in n k js h)
+
+pub stands_still : (n : ℕ) (k : Key) (ks more : List Key) → slice_get ks n ≡ Some k → slice_get (ks ++ more) n ≡ Some k
+stands_still n k [] more h = absurd (cc)
+stands_still zero k (j ∷ js) more h = h
+stands_still (suc n) k (j ∷ js) more h = stands_still n k js more h

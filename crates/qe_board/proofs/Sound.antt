@@ -7,10 +7,11 @@ use Rattle.qe_board.specs.declared.event.Event.{Event}
 use Rattle.qe_board.specs.declared.event.Event.TheVariants.{Take, Give, Fail, Drop, Cancel, Fill, Starve}
 use Rattle.qe_board.specs.declared.event.Stopping.{Stopping}
 use Rattle.qe_board.specs.declared.event.Stopping.TheVariants.{Unset, Truth, Limit, Memory}
-use Rattle.qe_board.specs.State.{Key, Link, Condition, waiting, held, expanded, leaf, failed, dropped, Entry, State, is_waiting, is_held_by, is_unset, keys, at, has_true_leaf}
+use Rattle.qe_board.specs.State.{Key, IsIn, Distinct, Link, Condition, waiting, held, expanded, leaf, failed, dropped, Entry, State, is_waiting, is_held_by, is_unset, keys, at, has_true_leaf}
 use Rattle.qe_board.specs.Machine.{new_keys, put, drop_waiting, waits_first, holds, opening_entry, opened, child_keys, grown_keys, links, fits, meaning_at, gives_and, does_fail, is_enabled, given, failing, effect, IsRunFrom, replay_from}
 use Rattle.qe_board.specs.Tree.{Spot, spots, nodes, Falls}
-use Rattle.qe_board.proofs.Keys.{IsIn, Within, Distinct, in_left, in_right, in_append, all_known, new_from, new_distinct, no_more_than}
+use Rattle.qe_board.specs.Kept.{AreLinks, IsFit, AreFit}
+use Rattle.qe_board.proofs.Keys.{Within, in_left, in_right, in_append, all_known, new_from, new_distinct, no_more_than, number_stands, stands_still}
 use Rattle.qe_board.proofs.Walks.{spot_keys, Closed, spots_closed, root_stands, first_has}
 use Rattle.qe_board.proofs.Conditions.{first_waits}
 
@@ -18,24 +19,21 @@ module _ {F : Type 0} (meaning : Key → Meaning F) (is_leaf truth : Key → Boo
   abbrev keys_of : List Child → List Key
   keys_of cs = map (λ c. c.key) cs
 
-  -- what a condition says of its piece; `ks` are the keys of all entries
-  abbrev pub IsFit : List Key → Bool → Condition F → Key → Type 0
-  IsFit ks unset waiting k = is_leaf k ≡ false
-  IsFit ks unset (held w) k = is_leaf k ≡ false
-  IsFit ks unset (expanded ls) k = (is_leaf k ≡ false) × ((cs : List Child) × ((meaning k ≡ gives cs) × Within (keys_of cs) ks))
-  IsFit ks unset leaf k = is_leaf k ≡ true
-  IsFit ks unset (failed f) k = (is_leaf k ≡ false) × (meaning k ≡ fails f)
-  IsFit ks unset dropped k = unset ≡ false
+  abbrev Fit : List Key → Bool → Condition F → Key → Type 0
+  Fit = IsFit meaning is_leaf truth height
 
-  abbrev pub AreFit : List Key → Bool → List (Entry F) → Type 0
-  AreFit ks unset [] = Unit {0}
-  AreFit ks unset (e ∷ es) = IsFit ks unset e.condition e.key × AreFit ks unset es
+  abbrev AllFit : List Key → Bool → List (Entry F) → Type 0
+  AllFit = AreFit meaning is_leaf truth height
+
+  -- what stands at a number still stands there
+  abbrev Still : List Key → List Key → Type 0
+  Still ks js = (n : ℕ) (k : Key) → slice_get ks n ≡ Some k → slice_get js n ≡ Some k
 
   abbrev entry_keys : List (Entry F) → List Key
   entry_keys es = map (λ e. e.key) es
 
   pub record IsSound (root : Key) (s : State F) : Type 0 where
-    pub fit : AreFit (keys s) (is_unset s.stop) s.entries
+    pub fit : AllFit (keys s) (is_unset s.stop) s.entries
     pub root_in : IsIn root (keys s)
     pub distinct : Distinct (keys s)
     pub within : Within (keys s) (spot_keys (spots meaning is_leaf truth height root))
@@ -54,19 +52,29 @@ module _ {F : Type 0} (meaning : Key → Meaning F) (is_leaf truth : Key → Boo
   keys_drop (e ∷ es) = ap (λ ks. e.key ∷ ks) (keys_drop es)
 
   -- more keys, and a stop that is set
-  fit_more : (ks js : List Key) (b : Bool) → Within ks js → (c : Condition F) (k : Key) → IsFit ks b c k → IsFit js b c k
+  links_more : (ks js : List Key) → Still ks js → (ls : List Link) (cs : List Child) → AreLinks ls cs ks → AreLinks ls cs js
+  links_more ks js more [] [] h = tt
+  links_more ks js more (l ∷ ls) (c ∷ cs) h = (h.0, more l.entry c.key h.1, links_more ks js more ls cs h.2)
+  links_more ks js more [] (c ∷ cs) h = absurd h
+  links_more ks js more (l ∷ ls) [] h = absurd h
+
+  links_are : (ks : List Key) (cs : List Child) → Within (keys_of cs) ks → AreLinks (links meaning is_leaf truth limit cs ks) cs ks
+  links_are ks [] within = tt
+  links_are ks (c ∷ cs) within = (refl, number_stands c.key ks (within c.key (inl refl)), links_are ks cs (λ x i. within x (inr i)))
+
+  fit_more : (ks js : List Key) (b : Bool) → Still ks js → (c : Condition F) (k : Key) → Fit ks b c k → Fit js b c k
   fit_more ks js b more waiting k h = h
   fit_more ks js b more (held w) k h = h
-  fit_more ks js b more (expanded ls) k h = (h.0, (h.1.0, (h.1.1.0, λ x i. more x (h.1.1.1 x i))))
+  fit_more ks js b more (expanded ls) k h = (h.0, (h.1.0, (h.1.1.0, links_more ks js more ls h.1.0 h.1.1.1)))
   fit_more ks js b more leaf k h = h
   fit_more ks js b more (failed f) k h = h
   fit_more ks js b more dropped k h = h
 
-  all_fit_more : (ks js : List Key) (b : Bool) → Within ks js → (es : List (Entry F)) → AreFit ks b es → AreFit js b es
+  all_fit_more : (ks js : List Key) (b : Bool) → Still ks js → (es : List (Entry F)) → AllFit ks b es → AllFit js b es
   all_fit_more ks js b more [] h = tt
   all_fit_more ks js b more (e ∷ es) h = (fit_more ks js b more e.condition e.key h.0, all_fit_more ks js b more es h.1)
 
-  fit_stopped : (ks : List Key) (b : Bool) (c : Condition F) (k : Key) → IsFit ks b c k → IsFit ks false c k
+  fit_stopped : (ks : List Key) (b : Bool) (c : Condition F) (k : Key) → Fit ks b c k → Fit ks false c k
   fit_stopped ks b waiting k h = h
   fit_stopped ks b (held w) k h = h
   fit_stopped ks b (expanded ls) k h = h
@@ -74,25 +82,25 @@ module _ {F : Type 0} (meaning : Key → Meaning F) (is_leaf truth : Key → Boo
   fit_stopped ks b (failed f) k h = h
   fit_stopped ks b dropped k h = refl
 
-  fit_drop : (ks : List Key) (b : Bool) (es : List (Entry F)) → AreFit ks b es → AreFit ks false (drop_waiting es)
+  fit_drop : (ks : List Key) (b : Bool) (es : List (Entry F)) → AllFit ks b es → AllFit ks false (drop_waiting es)
   fit_drop ks b [] h = tt
   fit_drop ks b (e ∷ es) h = (
-    elim (is_waiting e.condition) as (λ t. IsFit ks false (cond t dropped e.condition) e.key) [ true ↦ refl | false ↦ fit_stopped ks b e.condition e.key h.0 ],
+    elim (is_waiting e.condition) as (λ t. Fit ks false (cond t dropped e.condition) e.key) [ true ↦ refl | false ↦ fit_stopped ks b e.condition e.key h.0 ],
     fit_drop ks b es h.1,
   )
 
-  fit_append : (ks : List Key) (b : Bool) (es more : List (Entry F)) → AreFit ks b es → AreFit ks b more → AreFit ks b (es ++ more)
+  fit_append : (ks : List Key) (b : Bool) (es more : List (Entry F)) → AllFit ks b es → AllFit ks b more → AllFit ks b (es ++ more)
   fit_append ks b [] more h k = k
   fit_append ks b (e ∷ es) more h k = (h.0, fit_append ks b es more h.1 k)
 
   -- an entry in another condition, which fits what is known of it
-  fit_put : (ks : List Key) (b : Bool) (q : Condition F → Bool) (n : ℕ) (c : Condition F) (es : List (Entry F)) → AreFit ks b es → at q n es ≡ true
-      → ((e : Entry F) → slice_get es n ≡ Some e → q e.condition ≡ true → IsFit ks b e.condition e.key → IsFit ks b c e.key) → AreFit ks b (put n c es)
+  fit_put : (ks : List Key) (b : Bool) (q : Condition F → Bool) (n : ℕ) (c : Condition F) (es : List (Entry F)) → AllFit ks b es → at q n es ≡ true
+      → ((e : Entry F) → slice_get es n ≡ Some e → q e.condition ≡ true → Fit ks b e.condition e.key → Fit ks b c e.key) → AllFit ks b (put n c es)
   fit_put ks b q n c [] h there turn = tt
   fit_put ks b q zero c (e ∷ es) h there turn = (turn e refl there h.0, h.1)
   fit_put ks b q (suc n) c (e ∷ es) h there turn = (h.0, fit_put ks b q n c es h.1 there turn)
 
-  held_inner : (ks : List Key) (b : Bool) (w : ℕ) (d : Condition F) (k : Key) → is_held_by w d ≡ true → IsFit ks b d k → is_leaf k ≡ false
+  held_inner : (ks : List Key) (b : Bool) (w : ℕ) (d : Condition F) (k : Key) → is_held_by w d ≡ true → Fit ks b d k → is_leaf k ≡ false
   held_inner ks b w waiting k h fit = absurd (cc)
   held_inner ks b w (held v) k h fit = fit
   held_inner ks b w (expanded ls) k h fit = absurd (cc)
@@ -100,7 +108,7 @@ module _ {F : Type 0} (meaning : Key → Meaning F) (is_leaf truth : Key → Boo
   held_inner ks b w (failed f) k h fit = absurd (cc)
   held_inner ks b w dropped k h fit = absurd (cc)
 
-  waiting_inner : (ks : List Key) (b : Bool) (d : Condition F) (k : Key) → is_waiting d ≡ true → IsFit ks b d k → is_leaf k ≡ false
+  waiting_inner : (ks : List Key) (b : Bool) (d : Condition F) (k : Key) → is_waiting d ≡ true → Fit ks b d k → is_leaf k ≡ false
   waiting_inner ks b waiting k h fit = fit
   waiting_inner ks b (held v) k h fit = absurd (cc)
   waiting_inner ks b (expanded ls) k h fit = absurd (cc)
@@ -108,9 +116,9 @@ module _ {F : Type 0} (meaning : Key → Meaning F) (is_leaf truth : Key → Boo
   waiting_inner ks b (failed f) k h fit = absurd (cc)
   waiting_inner ks b dropped k h fit = absurd (cc)
 
-  opening_fit : (ks js : List Key) (b : Bool) → AreFit ks b (map (opening_entry meaning is_leaf truth limit) js)
+  opening_fit : (ks js : List Key) (b : Bool) → AllFit ks b (map (opening_entry meaning is_leaf truth limit) js)
   opening_fit ks [] b = tt
-  opening_fit ks (j ∷ js) b = (elim (is_leaf j) as (λ t. is_leaf j ≡ t → IsFit ks b (cond t leaf waiting) j) [ true ↦ λ e. e | false ↦ λ e. e ] refl, opening_fit ks js b)
+  opening_fit ks (j ∷ js) b = (elim (is_leaf j) as (λ t. is_leaf j ≡ t → Fit ks b (cond t leaf waiting) j) [ true ↦ λ e. e | false ↦ λ e. e ] refl, opening_fit ks js b)
 
   opening_keys : (js : List Key) → entry_keys (map (opening_entry meaning is_leaf truth limit) js) ≡ js
   opening_keys [] = refl
@@ -120,7 +128,7 @@ module _ {F : Type 0} (meaning : Key → Meaning F) (is_leaf truth : Key → Boo
   append_keys [] more = refl
   append_keys (e ∷ es) more = ap (λ ks. e.key ∷ ks) (append_keys es more)
 
-  all_fit_stopped : (ks : List Key) (b : Bool) (es : List (Entry F)) → AreFit ks b es → AreFit ks false es
+  all_fit_stopped : (ks : List Key) (b : Bool) (es : List (Entry F)) → AllFit ks b es → AllFit ks false es
   all_fit_stopped ks b [] h = tt
   all_fit_stopped ks b (e ∷ es) h = (fit_stopped ks b e.condition e.key h.0, all_fit_stopped ks b es h.1)
 
@@ -129,10 +137,10 @@ module _ {F : Type 0} (meaning : Key → Meaning F) (is_leaf truth : Key → Boo
     entry : Entry F
     there : slice_get es n ≡ Some entry
     passes : q entry.condition ≡ true
-    fit : IsFit ks b entry.condition entry.key
+    fit : Fit ks b entry.condition entry.key
     inside : IsIn entry.key (entry_keys es)
 
-  found : (q : Condition F → Bool) (ks : List Key) (b : Bool) (n : ℕ) (es : List (Entry F)) → AreFit ks b es → at q n es ≡ true → Found q ks b n es
+  found : (q : Condition F → Bool) (ks : List Key) (b : Bool) (n : ℕ) (es : List (Entry F)) → AllFit ks b es → at q n es ≡ true → Found q ks b n es
   found q ks b n [] fit there = absurd (cc)
   found q ks b zero (e ∷ es) fit there = record { entry = e; there = refl; passes = there; fit = fit.0; inside = inl refl }
   found q ks b (suc n) (e ∷ es) fit there = let f = found q ks b n es fit.1 there in record { entry = f.entry; there = f.there; passes = f.passes; fit = f.fit; inside = inr f.inside }
@@ -148,10 +156,10 @@ module _ {F : Type 0} (meaning : Key → Meaning F) (is_leaf truth : Key → Boo
   abbrev TooMany : Key → Type 0
   TooMany root = limit < length (nodes meaning is_leaf truth height root)
 
-  same_keys : (root : Key) (s : State F) → IsSound root s → (es : List (Entry F)) (t : Stopping) → entry_keys es ≡ keys s → AreFit (keys s) (is_unset t) es → (t ≡ Limit → TooMany root)
+  same_keys : (root : Key) (s : State F) → IsSound root s → (es : List (Entry F)) (t : Stopping) → entry_keys es ≡ keys s → AllFit (keys s) (is_unset t) es → (t ≡ Limit → TooMany root)
       → IsSound root (record { entries = es; stop = t })
   same_keys root s sound es t same fit beyond = record {
-    fit = subst (λ ks. AreFit ks (is_unset t) es) (sym same) fit;
+    fit = subst (λ ks. AllFit ks (is_unset t) es) (sym same) fit;
     root_in = subst (IsIn root) (sym same) sound.root_in;
     distinct = subst Distinct (sym same) sound.distinct;
     within = subst (λ ks. Within ks (spot_keys (spots meaning is_leaf truth height root))) (sym same) sound.within;
@@ -208,14 +216,14 @@ module _ {F : Type 0} (meaning : Key → Meaning F) (is_leaf truth : Key → Boo
         let c : Condition F = expanded (links meaning is_leaf truth limit cs (keys s ++ ks)) in
         let grown : entry_keys (put n c s.entries ++ map (opening_entry meaning is_leaf truth limit) ks) ≡ keys s ++ ks =
         append_keys (put n c s.entries) (map (opening_entry meaning is_leaf truth limit) ks) ∙ (λ i. keys_put n c s.entries i ++ opening_keys ks i) in
-        let known : AreFit (keys s ++ ks) (is_unset s.stop) s.entries = all_fit_more (keys s) (keys s ++ ks) (is_unset s.stop) (λ x i. in_left x (keys s) ks i) s.entries sound.fit in
-        let now : AreFit (keys s ++ ks) (is_unset s.stop) (put n c s.entries ++ map (opening_entry meaning is_leaf truth limit) ks) =
+        let known : AllFit (keys s ++ ks) (is_unset s.stop) s.entries = all_fit_more (keys s) (keys s ++ ks) (is_unset s.stop) (λ i x at. stands_still i x (keys s) ks at) s.entries sound.fit in
+        let now : AllFit (keys s ++ ks) (is_unset s.stop) (put n c s.entries ++ map (opening_entry meaning is_leaf truth limit) ks) =
         fit_append (keys s ++ ks) (is_unset s.stop) (put n c s.entries) _
         (fit_put (keys s ++ ks) (is_unset s.stop) (is_held_by w) n c s.entries known there
-        (λ e at passes fit. (held_inner (keys s ++ ks) (is_unset s.stop) w e.condition e.key passes fit, (cs, (some_same (meaning e.key) (gives cs) (meaning_found s n e (Some (gives cs)) at is), all_known (keys s) (keys_of cs))))))
+        (λ e at passes fit. (held_inner (keys s ++ ks) (is_unset s.stop) w e.condition e.key passes fit, (cs, (some_same (meaning e.key) (gives cs) (meaning_found s n e (Some (gives cs)) at is), links_are (keys s ++ ks) cs (all_known (keys s) (keys_of cs)))))))
         (opening_fit (keys s ++ ks) ks (is_unset s.stop)) in
         record {
-          fit = subst (λ js. AreFit js (is_unset s.stop) (put n c s.entries ++ map (opening_entry meaning is_leaf truth limit) ks)) (sym grown) now;
+          fit = subst (λ js. AllFit js (is_unset s.stop) (put n c s.entries ++ map (opening_entry meaning is_leaf truth limit) ks)) (sym grown) now;
           root_in = subst (IsIn root) (sym grown) (in_left root (keys s) ks sound.root_in);
           distinct = subst Distinct (sym grown) (new_distinct (keys s) (keys_of cs) sound.distinct);
           within = subst (λ js. Within js tree_keys) (sym grown) (grown_within s sound cs (children_within s sound f.entry.key cs f.inside inner means));

@@ -7,15 +7,16 @@ use Rattle.qe_piece.specs.Meaning.{Meaning, Child, gives, fails}
 use Rattle.qe_board.specs.declared.event.Event.{Event}
 use Rattle.qe_board.specs.declared.event.Stopping.{Stopping}
 use Rattle.qe_board.specs.declared.event.Stopping.TheVariants.{Unset, Truth, Limit, Memory}
-use Rattle.qe_board.specs.State.{Key, Condition, waiting, held, expanded, leaf, failed, dropped, Entry, State, is_waiting, is_held, is_unset, keys, count, is_done, has_true_leaf}
+use Rattle.qe_board.specs.State.{Key, IsIn, Distinct, Link, Condition, waiting, held, expanded, leaf, failed, dropped, Entry, State, is_waiting, is_held, is_unset, keys, count, is_done, has_true_leaf}
 use Rattle.qe_board.specs.Machine.{same_key, opened, IsRun, IsRunFrom, replay, replay_from}
 use Rattle.qe_board.specs.Tree.{Spot, Verdict, holds, fails_at, has_leaves, successors_of, below, fault_of, fault, spots, nodes, leaf_spots, first_fault, has_truth, verdict_of, verdict, Falls}
 use Rattle.qe_board.specs.Verdict.{condition_of, fault_in, is_leaf_in, leaves_in, first_fault_in, verdict_in}
 use Rattle.qe_board.specs.Laws.{StopMeans, TreeLaws}
-use Rattle.qe_board.proofs.Keys.{IsIn, Within, Distinct, same_tells, no_more_than}
+use Rattle.qe_board.proofs.Keys.{Within, same_tells, no_more_than, stands_in}
 use Rattle.qe_board.proofs.Walks.{spot_keys, child_keys, Closed, walk_within, first_from, first_has, first_distinct, any_from}
 use Rattle.qe_board.proofs.Runs.{run_laws}
-use Rattle.qe_board.proofs.Sound.{IsFit, AreFit, IsSound, sound_run}
+use Rattle.qe_board.specs.Kept.{AreLinks, IsFit, AreFit}
+use Rattle.qe_board.proofs.Sound.{IsSound, sound_run}
 
 -- a piece that is true, where there is one
 any_entry : {F : Type 0} (truth : Key → Bool) (es : List (Entry F)) → list_any (λ e. truth e.key) es ≡ true → (k : Key) × (IsIn k (map (λ e. e.key) es) × (truth k ≡ true))
@@ -45,9 +46,17 @@ entry_from truth k (e ∷ es) (inr h) passes = right (truth e.key) (entry_from t
     right true e = refl
     right false e = e
 
+-- what is linked is among the keys
+links_within : (ks : List Key) (ls : List Link) (cs : List Child) → AreLinks ls cs ks → Within (child_keys cs) ks
+links_within ks [] [] h x i = absurd i
+links_within ks (l ∷ ls) (c ∷ cs) h x (inl e) = subst (λ y. IsIn y ks) (sym e) (stands_in l.entry c.key ks h.1)
+links_within ks (l ∷ ls) (c ∷ cs) h x (inr i) = links_within ks ls cs h.2 x i
+links_within ks [] (c ∷ cs) h x i = absurd h
+links_within ks (l ∷ ls) [] h x i = absurd h
+
 module _ {F : Type 0} (meaning : Key → Meaning F) (is_leaf truth : Key → Bool) (height : Key → ℕ) (limit : ℕ) where
   abbrev Fit : List Key → Bool → List (Entry F) → Type 0
-  Fit = AreFit meaning is_leaf truth height limit
+  Fit = AreFit meaning is_leaf truth height
 
   abbrev under : Key → List Child
   under = below meaning is_leaf truth height
@@ -63,11 +72,11 @@ module _ {F : Type 0} (meaning : Key → Meaning F) (is_leaf truth : Key → Boo
     fault_is : why k ≡ fault_in (Some c)
     leaf_is : is_leaf k ≡ is_leaf_in (Some c)
 
-  tells : (ks : List Key) (c : Condition F) (k : Key) → is_waiting c ≡ false → is_held c ≡ false → IsFit meaning is_leaf truth height limit ks true c k → Tells ks c k
+  tells : (ks : List Key) (c : Condition F) (k : Key) → is_waiting c ≡ false → is_held c ≡ false → IsFit meaning is_leaf truth height ks true c k → Tells ks c k
   tells ks waiting k no_wait no_hold fit = absurd (cc)
   tells ks (held w) k no_wait no_hold fit = absurd (cc)
   tells ks (expanded ls) k no_wait no_hold fit = record {
-    children = λ x i. fit.1.1.1 x (subst (λ m. IsIn x (child_keys (successors_of meaning is_leaf truth height m))) fit.1.1.0 (subst (λ b. IsIn x (child_keys (cond b [] (successors_of meaning is_leaf truth height (meaning k))))) fit.0 i));
+    children = λ x i. links_within ks ls fit.1.0 fit.1.1.1 x (subst (λ m. IsIn x (child_keys (successors_of meaning is_leaf truth height m))) fit.1.1.0 (subst (λ b. IsIn x (child_keys (cond b [] (successors_of meaning is_leaf truth height (meaning k))))) fit.0 i));
     fault_is = ap (λ b. cond b None (fault_of meaning is_leaf truth height (meaning k))) fit.0 ∙ ap (fault_of meaning is_leaf truth height) fit.1.1.0;
     leaf_is = fit.0;
   }
@@ -204,6 +213,7 @@ module _ {F : Type 0} (meaning : Key → Meaning F) (is_leaf truth : Key → Boo
 
   pub tree_laws : Falls meaning is_leaf truth height → 1 ≤ limit → TreeLaws meaning is_leaf truth height limit
   tree_laws falls some = record {
+    states_keep = λ root es run. (let kept = sound falls some root es run in record { fit = kept.fit; distinct = kept.distinct; pieces = kept.within });
     one_verdict = λ root es run. one_verdict falls some root es run;
     limit_means = λ root es run. (sound falls some root es run).beyond;
     too_many_stop = λ root es run. too_many_stop falls some root es run;

@@ -8,6 +8,7 @@ use Rattle.qe_board.specs.declared.event.Stopping.TheVariants.{Unset, Truth, Lim
 use Rattle.qe_board.specs.State.{Key, State, is_waiting, count, is_done, has_true_leaf}
 use Rattle.qe_board.specs.Machine.{is_enabled, effect, IsRunFrom, IsRun, replay}
 use Rattle.qe_board.specs.Tree.{nodes, has_truth, verdict, Falls}
+use Rattle.qe_board.specs.Kept.{Keeps}
 use Rattle.qe_board.specs.Verdict.{verdict_in}
 
 -- no event takes an entry
@@ -93,8 +94,13 @@ module _ {F : Type 0} (meaning : Key → Meaning F) (is_leaf truth : Key → Boo
   abbrev pub FewEntries : Type 0
   FewEntries = (root : Key) (es : List Event) → Runs root es → length (last root es).entries ≤ limit
 
+  -- every state of a run keeps that its entries are distinct pieces of the tree, and what has become of each
+  abbrev pub StatesKeep : Type 0
+  StatesKeep = (root : Key) (es : List Event) → Runs root es → Keeps meaning is_leaf truth height root (last root es)
+
   -- all of them
   pub record TreeLaws : Type 0 where
+    pub states_keep : StatesKeep
     pub one_verdict : OneVerdict
     pub limit_means : LimitMeans
     pub too_many_stop : TooManyStop

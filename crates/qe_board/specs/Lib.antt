@@ -1,5 +1,6 @@
 pub mod State
 pub mod Machine
 pub mod Tree
+pub mod Kept
 pub mod Verdict
 pub mod Laws

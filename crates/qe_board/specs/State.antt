@@ -1,5 +1,5 @@
 -- The states of the container: a list of entries, and why it stops. A piece is told by its key.
-use Rattle.std.specs.Prelude.{ℕ, zero, suc, ◌+◌, Bool, true, false, cond, eqb, ◌&&◌, List, [], ◌∷◌, map}
+use Rattle.std.specs.Prelude.{ℕ, zero, suc, ◌≡◌, ◌⊎◌, ◌+◌, Bool, true, false, cond, eqb, ◌&&◌, List, [], ◌∷◌, map}
 use Rattle.std.specs.List.{list_any}
 use Rattle.qe_board.specs.declared.event.Stopping.{Stopping}
 use Rattle.qe_board.specs.declared.event.Stopping.TheVariants.{Unset, Truth, Limit, Memory}
@@ -7,6 +7,16 @@ use Rattle.qe_board.specs.declared.event.Stopping.TheVariants.{Unset, Truth, Lim
 -- a list of numbers that tells a piece from others
 abbrev pub Key : Type 0
 Key = List ℕ
+
+-- the key is among these
+abbrev pub IsIn : Key → List Key → Type 0
+IsIn k [] = ⊥
+IsIn k (j ∷ js) = (k ≡ j) ⊎ IsIn k js
+
+-- none stands twice
+abbrev pub Distinct : List Key → Type 0
+Distinct [] = Unit {0}
+Distinct (k ∷ ks) = (IsIn k ks → ⊥) × Distinct ks
 
 -- a successor: the number of its point, and the number of its entry
 pub record Link : Type 0 where

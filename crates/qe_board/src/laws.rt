@@ -13,8 +13,9 @@ pub fn runs<F>()
         → RunLaws meaning is_leaf truth limit }
 {}
 
-/// The laws of runs and the tree of the root, over any pieces whose successors have smaller heights: every done run that is
-/// not stopped, or stopped by truth, has the verdict of the tree; a stop by the limit comes only where the tree has more
+/// The laws of runs and the tree of the root, over any pieces whose successors have smaller heights: entries are distinct
+/// pieces of the tree, at most the limit's number, and one that was expanded lists exactly its successors; every done run that
+/// is not stopped, or stopped by truth, has the verdict of the tree; a stop by the limit comes only where the tree has more
 /// distinct pieces; a done run over such a tree without a true piece ends with limit or memory.
 pub fn runs_in_a_tree<F>()
     ensures { (meaning : Key → Meaning F) (is_leaf truth : Key → Bool) (height : Key → ℕ) (limit : ℕ)
