@@ -4,3 +4,4 @@ pub mod Keys
 pub mod Walks
 pub mod Sound
 pub mod Verdicts
+pub mod PlainRuns

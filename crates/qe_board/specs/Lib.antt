@@ -3,4 +3,5 @@ pub mod Machine
 pub mod Tree
 pub mod Kept
 pub mod Verdict
+pub mod Plain
 pub mod Laws
