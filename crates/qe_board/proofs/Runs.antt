@@ -10,6 +10,7 @@ use Rattle.qe_board.specs.declared.event.Stopping.TheVariants.{Unset, Truth, Lim
 use Rattle.qe_board.specs.State.{Key, Link, Condition, waiting, held, expanded, leaf, failed, dropped, Entry, State, is_waiting, is_held, is_held_by, is_unset, keys, at, count, is_done, has_true_leaf}
 use Rattle.qe_board.specs.Machine.{new_keys, put, drop_waiting, waits_first, holds, opening_entry, opened, child_keys, links, fits, meaning_at, gives_and, does_fail, is_enabled, given, failing, effect, IsRunFrom, IsRun, replay_from, replay}
 use Rattle.qe_board.specs.Laws.{TakesNone, takes, StopMeans, RunLaws}
+use Rattle.qe_board.proofs.PlainRuns.{plain_is_run, only_one}
 use Rattle.qe_board.proofs.Conditions.{count_put, first_waits, waiting_waits, waiting_not_held, held_not_waiting, held_is_held, none_wait, held_stay, count_append, length_append, count_few, Settled, settled_put, settled_itself, settled_drop, settled_more, settled_not_first, true_put, true_drop, true_more, length_put, length_drop}
 
 not_both : (b : Bool) → b ≡ true → not b ≡ true → ⊥
@@ -284,6 +285,8 @@ module _ {F : Type 0} (meaning : Key → Meaning F) (is_leaf truth : Key → Boo
 
   pub run_laws : RunLaws meaning is_leaf truth limit
   run_laws = record {
+    plain_is_run = plain_is_run meaning is_leaf truth limit;
+    one_plain_run = only_one meaning is_leaf truth limit;
     truth_ends_taking = ends_taking;
     taken_once = λ root es run n. taken_once n (opened meaning is_leaf truth limit root) es run;
     few_events = few_events;

@@ -7,6 +7,7 @@ use Rattle.qe_board.specs.declared.event.Stopping.{Stopping}
 use Rattle.qe_board.specs.declared.event.Stopping.TheVariants.{Unset, Truth, Limit, Memory}
 use Rattle.qe_board.specs.State.{Key, State, is_waiting, count, is_done, has_true_leaf}
 use Rattle.qe_board.specs.Machine.{is_enabled, effect, IsRunFrom, IsRun, replay}
+use Rattle.qe_board.specs.Plain.{IsPlain}
 use Rattle.qe_board.specs.Tree.{nodes, has_truth, verdict, Falls}
 use Rattle.qe_board.specs.Kept.{Keeps}
 use Rattle.qe_board.specs.Verdict.{verdict_in}
@@ -54,8 +55,17 @@ module _ {F : Type 0} (meaning : Key → Meaning F) (is_leaf truth : Key → Boo
   DoneStays = (s : State F) (e : Event) → is_done s ≡ true → is_enabled meaning is_leaf truth limit e s ≡ true
       → is_done (effect meaning is_leaf truth limit e s) ≡ true
 
+  -- the plain run is a run, and there is only one
+  abbrev pub PlainIsRun : Type 0
+  PlainIsRun = (root : Key) (es : List Event) → IsPlain meaning is_leaf truth limit root es → IsRun meaning is_leaf truth limit root es
+
+  abbrev pub OnePlainRun : Type 0
+  OnePlainRun = (root : Key) (es others : List Event) → IsPlain meaning is_leaf truth limit root es → IsPlain meaning is_leaf truth limit root others → es ≡ others
+
   -- all of them
   pub record RunLaws : Type 0 where
+    pub plain_is_run : PlainIsRun
+    pub one_plain_run : OnePlainRun
     pub truth_ends_taking : TruthEndsTaking
     pub taken_once : TakenOnce
     pub few_events : FewEvents

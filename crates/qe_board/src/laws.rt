@@ -7,7 +7,8 @@ ghost use Rattle.qe_board.specs.Laws.{RunLaws, TreeLaws};
 ghost use Rattle.qe_board.specs.Tree.{Falls};
 
 /// The laws of runs, over any pieces: nothing is taken after a leaf became true; each entry is taken at most once; there are
-/// at most two events an entry and one more; a stop means what it says; what is done stays done.
+/// at most two events an entry and one more; a stop means what it says; what is done stays done; the plain run, that of worker 0
+/// alone, is a run, and there is only one.
 pub fn runs<F>()
     ensures { (meaning : Key → Meaning F) (is_leaf truth : Key → Bool) (limit : ℕ)
         → RunLaws meaning is_leaf truth limit }

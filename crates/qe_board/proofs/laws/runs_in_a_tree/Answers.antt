@@ -1,5 +1,4 @@
 use Rattle.qe_board.proofs.Verdicts.{tree_laws}
-use Rattle.qe_board.proofs.PlainRuns.{one_first, one_held, few_left}
 use Rattle.qe_board.proofs.laws.runs_in_a_tree.Goals as goal
 
 pub returns : goal.returns
