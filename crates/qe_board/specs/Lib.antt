@@ -1,0 +1,7 @@
+pub mod State
+pub mod Machine
+pub mod Tree
+pub mod Kept
+pub mod Verdict
+pub mod Plain
+pub mod Laws

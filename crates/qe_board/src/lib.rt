@@ -1,0 +1,8 @@
+//! The container of nodes: one machine over pieces, its events and its runs.
+//! Knows no formulas, no threads and no lock.
+#![tactic(auto)]
+
+mod event;
+pub mod laws;
+
+pub use event::{Event, Stopping};
