@@ -82,11 +82,11 @@ abbrev mutual
 abbrev pub HasRoom : Context → Scope → List Name → Type 0
 HasRoom context scope names = length context.free.now + length scope.bound.items + length names < 2 ^ 32
 
-abbrev pub formula_in : Context → Scope → FormulaTree → Result Formula Met
-formula_in context scope = formula context.text.now context.free.now scope.enclosing.items scope.bound.items
+abbrev pub formula_within : Context → Scope → FormulaTree → Result Formula Met
+formula_within context scope = formula context.text.now context.free.now scope.enclosing.items scope.bound.items
 
-abbrev pub formulas_in : Context → Scope → FormulaTrees → Result Formulas Met
-formulas_in context scope = formulas context.text.now context.free.now scope.enclosing.items scope.bound.items
+abbrev pub formulas_within : Context → Scope → FormulaTrees → Result Formulas Met
+formulas_within context scope = formulas context.text.now context.free.now scope.enclosing.items scope.bound.items
 
 -- A call's result, as `seen` sees it, is this value; the binders around are as before, and these names are bound now.
 -- Or there is a limit in its place; out of memory may come in place of either.

@@ -5,7 +5,7 @@ ghost use Rattle.qe_form.specs.Tree.{tree, trees};
 ghost use Rattle.qe_syntax.specs.Code.{term_of, tree_of, as_parts};
 ghost use Rattle.qe_read.specs.Names.{variable};
 ghost use Rattle.qe_read.specs.Value.{value as value_of, IsValueBy};
-ghost use Rattle.qe_read.specs.Formula.{relation_signs, atom_value, bound_names, names_bound_in, formula as formula_value, formula_in, formulas_in, HasRoom, Yields};
+ghost use Rattle.qe_read.specs.Formula.{relation_signs, atom_value, bound_names, names_bound_in, formula as formula_value, formula_within, formulas_within, HasRoom, Yields};
 
 use crate::scope::{Binder, Context, Scope};
 use crate::value::{ValueStop, subtract};
@@ -57,7 +57,7 @@ impl Context<'_, '_> {
     #[cycle(formula)]
     pub fn formula(&self, scope: &mut Scope, formula: &Formula) -> Result<Form, ValueStop>
         requires { HasRoom self.now scope.old (bound_names (tree_of formula.now)) }
-        ensures { let value = formula_in self.now scope.old (tree_of formula.now) in
+        ensures { let value = formula_within self.now scope.old (tree_of formula.now) in
             Yields tree value (bound_names (tree_of formula.now)) result scope.old scope.new }
     {
         match formula {
@@ -92,7 +92,7 @@ impl Context<'_, '_> {
     #[cycle(formula)]
     fn boxed(&self, scope: &mut Scope, formula: &Formula) -> Result<Box<Form>, ValueStop>
         requires { HasRoom self.now scope.old (bound_names (tree_of formula.now)) }
-        ensures { let value = formula_in self.now scope.old (tree_of formula.now) in
+        ensures { let value = formula_within self.now scope.old (tree_of formula.now) in
             let names = bound_names (tree_of formula.now) in
             Yields (λ form. tree form.value) value names result scope.old scope.new }
     {
@@ -127,7 +127,7 @@ impl Context<'_, '_> {
     fn formulas(&self, scope: &mut Scope, formulas: &[Formula]) -> Result<Forms, ValueStop>
         requires { HasRoom self.now scope.old (names_bound_in (as_parts (map tree_of formulas.now))) }
         ensures { let parts = as_parts (map tree_of formulas.now) in
-            let value = formulas_in self.now scope.old parts in
+            let value = formulas_within self.now scope.old parts in
             Yields trees value (names_bound_in parts) result scope.old scope.new }
     {
         let mut forms = Sequence::new(self.alloc);
