@@ -1,6 +1,6 @@
 -- Formulas in order, for a loop that goes along one list and makes another.
 use Rattle.std.proofs.Common.{ℕ, zero, suc, ◌+◌, ◌^◌, ◌≡◌, ◌<◌, ◌≤◌, refl, sym, ap, subst, ◌∙◌, List, [], ◌∷◌, ◌++◌, append_assoc, length, length-append, map, get_or, drop, arith, Result, Ok, Err}
-use Rattle.std.proofs.lemmas.List.{drop_all}
+use Rattle.std.proofs.lemmas.List.{append-nil, drop_all}
 use Rattle.std.proofs.Math.Numerals.{add-one}
 use Rattle.qe_token.specs.declared.token.Name.{Name}
 use Rattle.qe_syntax.specs.declared.tree.Formula.{Formula}
@@ -82,6 +82,10 @@ made_once text free enclosing around bound named fs made f t rest before goal e 
     ∙ ap (λ r. proceed r (λ gs. Ok (followed fs gs))) (sym at_first)
     ∙ ap (λ ts. proceed (formulas text free enclosing bound ts) (λ gs. Ok (followed fs gs))) (sym e)
     ∙ inv
+
+-- where nothing is left
+pub bound_none : (bound goal : List Name) (rest : FormulaTrees) → rest ≡ no_more → bound ++ names_bound_in rest ≡ goal → bound ≡ goal
+bound_none bound goal rest e inv = sym (append-nil bound) ∙ ap (λ ts. bound ++ names_bound_in ts) (sym e) ∙ inv
 
 pub made_all : (text : List ℕ) (free : List Letters) (enclosing : List Binder) (bound : List Name) (fs : List Form) (rest : FormulaTrees) (goal : Result Formulas Met)
     → rest ≡ no_more → proceed (formulas text free enclosing bound rest) (λ gs. Ok (followed fs gs)) ≡ goal → goal ≡ Ok (trees fs)

@@ -1,5 +1,5 @@
 -- The formula that a tree stands for, or the first limit that an operation meets.
-use Rattle.std.specs.Prelude.{ℕ, ◌+◌, List, [], ◌∷◌, ◌++◌, length, Result, Ok}
+use Rattle.std.specs.Prelude.{ℕ, ◌≡◌, ◌+◌, ◌<◌, ◌^◌, List, [], ◌∷◌, ◌++◌, length, Result, Ok, Err}
 use Rattle.qe_token.specs.declared.token.Name.{Name}
 use Rattle.qe_token.specs.declared.token.Relation.{Relation}
 use Rattle.qe_token.specs.declared.token.Relation.TheVariants as relation
@@ -10,6 +10,10 @@ use Rattle.qe_form.specs.Signs.{equal, not_equal, less, less_or_equal, greater, 
 use Rattle.qe_form.specs.Formula.{Formula, Formulas, True, False, Atom, And, Or, Not, Implies, Iff, Ex, All, no_more, more}
 use Rattle.qe_read.specs.declared.value.Met.{Met}
 use Rattle.qe_read.specs.declared.scope.Binder.{Binder}
+use Rattle.qe_read.specs.declared.scope.Context.{Context}
+use Rattle.qe_read.specs.declared.scope.Scope.{Scope}
+use Rattle.qe_halt.specs.declared.halt.Halt.{Halt}
+use Rattle.qe_halt.specs.declared.halt.Halt.TheVariants as halt
 use Rattle.qe_read.specs.Names.{Letters, variable}
 use Rattle.qe_read.specs.Value.{Value, proceed, value, subtracted}
 
@@ -71,3 +75,26 @@ abbrev mutual
   formulas text free enclosing bound syntax.no_more = Ok no_more
   formulas text free enclosing bound (syntax.more f fs) =
       proceed (formula text free enclosing bound f) (λ g. proceed (formulas text free enclosing (bound ++ bound_names f) fs) (λ gs. Ok (more g gs)))
+
+-- ---- what a method of the reader does
+
+-- there is room for these names, behind those that are free and those that are bound
+abbrev pub HasRoom : Context → Scope → List Name → Type 0
+HasRoom context scope names = length context.free.now + length scope.bound.items + length names < 2 ^ 32
+
+abbrev pub formula_within : Context → Scope → FormulaTree → Result Formula Met
+formula_within context scope = formula context.text.now context.free.now scope.enclosing.items scope.bound.items
+
+abbrev pub formulas_within : Context → Scope → FormulaTrees → Result Formulas Met
+formulas_within context scope = formulas context.text.now context.free.now scope.enclosing.items scope.bound.items
+
+-- A call's result, as `seen` sees it, is this value; the binders around are as before, and these names are bound now.
+-- Or there is a limit in its place; out of memory may come in place of either.
+abbrev pub Yields : {A B : Type 0} → (B → A) → Result A Met → List Name → Result B (Halt Met) → Scope → Scope → Type 0
+Yields seen exact names (Ok b) old new = record {
+  is : exact ≡ Ok (seen b);
+  enclosing : new.enclosing.items ≡ old.enclosing.items;
+  bound : new.bound.items ≡ old.bound.items ++ names;
+}
+Yields seen exact names (Err (halt.Limit met)) old new = exact ≡ Err met
+Yields seen exact names (Err halt.OutOfMemory) old new = Unit {0}

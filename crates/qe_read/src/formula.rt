@@ -1,11 +1,11 @@
 //! The formula of a tree: its variables and its polynomials.
 
-ghost use Rattle.std.specs.Prelude.{◌≡◌, ◌+◌, ◌<◌, ◌^◌, ◌++◌, ◌∷◌, [], length, map, OnOk};
+ghost use Rattle.std.specs.Prelude.{◌≡◌, ◌+◌, ◌++◌, ◌∷◌, [], length, map};
 ghost use Rattle.qe_form.specs.Tree.{tree, trees};
 ghost use Rattle.qe_syntax.specs.Code.{term_of, tree_of, as_parts};
 ghost use Rattle.qe_read.specs.Names.{variable};
 ghost use Rattle.qe_read.specs.Value.{value as value_of, IsValueBy};
-ghost use Rattle.qe_read.specs.Formula.{relation_signs, atom_value, bound_names, names_bound_in, formula as formula_value, formulas as formula_values};
+ghost use Rattle.qe_read.specs.Formula.{relation_signs, atom_value, bound_names, names_bound_in, formula as formula_value, formula_within, formulas_within, HasRoom, Yields};
 
 use crate::scope::{Binder, Context, Scope};
 use crate::value::{ValueStop, subtract};
@@ -45,8 +45,9 @@ impl Context<'_, '_> {
 
     /// The variable that is bound next.
     fn next_var(&self, scope: &Scope) -> Var
-        requires { length self.now.free.now + length scope.now.bound.items < 2 ^ 32 }
-        ensures { result ≡ record { 0 = length self.now.free.now + length scope.now.bound.items } }
+        requires { HasRoom self.now scope.now [] }
+        ensures { let number = length self.now.free.now + length scope.now.bound.items in
+            result ≡ record { 0 = number } }
     {
         Var((self.free.len() + scope.bound.len()) as u32)
     }
@@ -55,10 +56,9 @@ impl Context<'_, '_> {
     /// are appended to those that were bound before.
     #[cycle(formula)]
     pub fn formula(&self, scope: &mut Scope, formula: &Formula) -> Result<Form, ValueStop>
-        requires { length self.now.free.now + length scope.old.bound.items + length (bound_names (tree_of formula.now)) < 2 ^ 32 }
-        ensures form { IsValueBy tree (formula_value self.now.text.now self.now.free.now scope.old.enclosing.items scope.old.bound.items (tree_of formula.now)) result }
-        ensures enclosing { OnOk result (scope.new.enclosing.items ≡ scope.old.enclosing.items) }
-        ensures bound { OnOk result (scope.new.bound.items ≡ scope.old.bound.items ++ bound_names (tree_of formula.now)) }
+        requires { HasRoom self.now scope.old (bound_names (tree_of formula.now)) }
+        ensures { let value = formula_within self.now scope.old (tree_of formula.now) in
+            Yields tree value (bound_names (tree_of formula.now)) result scope.old scope.new }
     {
         match formula {
             Formula::True => Ok(Form::True),
@@ -91,10 +91,10 @@ impl Context<'_, '_> {
     /// The same in a box.
     #[cycle(formula)]
     fn boxed(&self, scope: &mut Scope, formula: &Formula) -> Result<Box<Form>, ValueStop>
-        requires { length self.now.free.now + length scope.old.bound.items + length (bound_names (tree_of formula.now)) < 2 ^ 32 }
-        ensures form { IsValueBy (λ form. tree form.value) (formula_value self.now.text.now self.now.free.now scope.old.enclosing.items scope.old.bound.items (tree_of formula.now)) result }
-        ensures enclosing { OnOk result (scope.new.enclosing.items ≡ scope.old.enclosing.items) }
-        ensures bound { OnOk result (scope.new.bound.items ≡ scope.old.bound.items ++ bound_names (tree_of formula.now)) }
+        requires { HasRoom self.now scope.old (bound_names (tree_of formula.now)) }
+        ensures { let value = formula_within self.now scope.old (tree_of formula.now) in
+            let names = bound_names (tree_of formula.now) in
+            Yields (λ form. tree form.value) value names result scope.old scope.new }
     {
         let form = self.formula(scope, formula)?;
         Ok(Box::new(self.alloc, form)?)
@@ -108,10 +108,12 @@ impl Context<'_, '_> {
         binder: Binder,
         body: &Formula,
     ) -> Result<Box<Form>, ValueStop>
-        requires { length self.now.free.now + length scope.old.bound.items + 1 + length (bound_names (tree_of body.now)) < 2 ^ 32 }
-        ensures form { IsValueBy (λ form. tree form.value) (formula_value self.now.text.now self.now.free.now (scope.old.enclosing.items ++ binder ∷ []) (scope.old.bound.items ++ binder.name ∷ []) (tree_of body.now)) result }
-        ensures enclosing { OnOk result (scope.new.enclosing.items ≡ scope.old.enclosing.items) }
-        ensures bound { OnOk result (scope.new.bound.items ≡ scope.old.bound.items ++ binder.name ∷ bound_names (tree_of body.now)) }
+        requires { HasRoom self.now scope.old (binder.name ∷ bound_names (tree_of body.now)) }
+        ensures { let enclosing = scope.old.enclosing.items ++ binder ∷ [] in
+            let bound = scope.old.bound.items ++ binder.name ∷ [] in
+            let value = formula_value self.now.text.now self.now.free.now enclosing bound (tree_of body.now) in
+            let names = binder.name ∷ bound_names (tree_of body.now) in
+            Yields (λ form. tree form.value) value names result scope.old scope.new }
     {
         scope.enclosing.push(binder)?;
         scope.bound.push(binder.name)?;
@@ -123,10 +125,10 @@ impl Context<'_, '_> {
     /// The formulas of trees in order.
     #[cycle(formula)]
     fn formulas(&self, scope: &mut Scope, formulas: &[Formula]) -> Result<Forms, ValueStop>
-        requires { length self.now.free.now + length scope.old.bound.items + length (names_bound_in (as_parts (map tree_of formulas.now))) < 2 ^ 32 }
-        ensures form { IsValueBy trees (formula_values self.now.text.now self.now.free.now scope.old.enclosing.items scope.old.bound.items (as_parts (map tree_of formulas.now))) result }
-        ensures enclosing { OnOk result (scope.new.enclosing.items ≡ scope.old.enclosing.items) }
-        ensures bound { OnOk result (scope.new.bound.items ≡ scope.old.bound.items ++ names_bound_in (as_parts (map tree_of formulas.now))) }
+        requires { HasRoom self.now scope.old (names_bound_in (as_parts (map tree_of formulas.now))) }
+        ensures { let parts = as_parts (map tree_of formulas.now) in
+            let value = formulas_within self.now scope.old parts in
+            Yields trees value (names_bound_in parts) result scope.old scope.new }
     {
         let mut forms = Sequence::new(self.alloc);
         for formula in formulas {

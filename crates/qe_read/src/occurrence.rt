@@ -25,7 +25,8 @@ fn push_term(
     around: &[Name],
     term: &Term,
 ) -> Result<(), OutOfMemory>
-    ensures { OnOk result (names.new.items ≡ names.old.items ++ free_in text.now around.now (term_of term.now)) }
+    ensures { let free = free_in text.now around.now (term_of term.now) in
+        OnOk result (names.new.items ≡ names.old.items ++ free) }
 {
     match term {
         Term::Number(_) => Ok(()),
@@ -55,7 +56,8 @@ fn push_addends(
     around: &[Name],
     addends: &[Addend],
 ) -> Result<(), OutOfMemory>
-    ensures { OnOk result (names.new.items ≡ names.old.items ++ free_in_addends text.now around.now (addends_of (map addend_of addends.now))) }
+    ensures { let free = free_in_addends text.now around.now (addends_of (map addend_of addends.now)) in
+        OnOk result (names.new.items ≡ names.old.items ++ free) }
 {
     for addend in addends {
         push_term(names, text, around, &addend.term)?;
@@ -70,7 +72,8 @@ fn push_factors(
     around: &[Name],
     factors: &[Factor],
 ) -> Result<(), OutOfMemory>
-    ensures { OnOk result (names.new.items ≡ names.old.items ++ free_in_factors text.now around.now (factors_of (map factor_of factors.now))) }
+    ensures { let free = free_in_factors text.now around.now (factors_of (map factor_of factors.now)) in
+        OnOk result (names.new.items ≡ names.old.items ++ free) }
 {
     for factor in factors {
         push_term(names, text, around, &factor.term)?;
@@ -78,7 +81,8 @@ fn push_factors(
     Ok(())
 }
 
-/// Appends the names that are free in a formula, in the order of the text. `around` are the names bound around it, and are left as they were.
+/// Appends the names that are free in a formula, in the order of the text.
+/// `around` are the names bound around it, and are left as they were.
 #[cycle(formula)]
 pub fn push_free(
     names: &mut Vec<Name>,
@@ -86,7 +90,8 @@ pub fn push_free(
     around: &mut Vec<Name>,
     formula: &Formula,
 ) -> Result<(), OutOfMemory>
-    ensures names { OnOk result (names.new.items ≡ names.old.items ++ free_names text.now around.old.items (tree_of formula.now)) }
+    ensures names { let free = free_names text.now around.old.items (tree_of formula.now) in
+        OnOk result (names.new.items ≡ names.old.items ++ free) }
     ensures around { OnOk result (around.new.items ≡ around.old.items) }
 {
     match formula {
@@ -119,7 +124,9 @@ fn push_free_each(
     around: &mut Vec<Name>,
     formulas: &[Formula],
 ) -> Result<(), OutOfMemory>
-    ensures names { OnOk result (names.new.items ≡ names.old.items ++ free_names_each text.now around.old.items (as_parts (map tree_of formulas.now))) }
+    ensures names { let parts = as_parts (map tree_of formulas.now) in
+        let free = free_names_each text.now around.old.items parts in
+        OnOk result (names.new.items ≡ names.old.items ++ free) }
     ensures around { OnOk result (around.new.items ≡ around.old.items) }
 {
     for formula in formulas {

@@ -40,7 +40,8 @@ fn names_of(context: &Context, bound: &[Name]) -> Result<Names, OutOfMemory>
     requires few { length context.now.free.now + length bound.now < 2 ^ 32 }
     requires free { All IsUtf8 context.now.free.now }
     requires bound { All (λ x. IsUtf8 (letters_of context.now.text.now x)) bound.now }
-    ensures { IfOk result (λ names. names ≡ context.now.free.now ++ map (letters_of context.now.text.now) bound.now) }
+    ensures { let of_bound = map (letters_of context.now.text.now) bound.now in
+        IfOk result (λ names. names ≡ context.now.free.now ++ of_bound) }
 {
     let mut names = Names::new(context.alloc);
     for free in context.free.names() {
@@ -54,11 +55,15 @@ fn names_of(context: &Context, bound: &[Name]) -> Result<Names, OutOfMemory>
 
 /// The formula of a tree with its names, or the first limit that an operation meets.
 fn read_tree(alloc: Global, bytes: &[u8], formula: &Formula) -> Result<Input, ReadFault>
-    requires few { length (free_names bytes.now [] (tree_of formula.now)) + length (bound_names (tree_of formula.now)) < 2 ^ 32 }
-    requires free { All (λ x. IsUtf8 (letters_of bytes.now x)) (free_names bytes.now [] (tree_of formula.now)) }
+    requires few { let free = free_names bytes.now [] (tree_of formula.now) in
+        length free + length (bound_names (tree_of formula.now)) < 2 ^ 32 }
+    requires free { let free = free_names bytes.now [] (tree_of formula.now) in
+        All (λ x. IsUtf8 (letters_of bytes.now x)) free }
     requires bound { All (λ x. IsUtf8 (letters_of bytes.now x)) (bound_names (tree_of formula.now)) }
     ensures answers { AnswersTree bytes.now (tree_of formula.now) result }
-    ensures few { IfOk result (λ input. length input.names ≤ length (free_names bytes.now [] (tree_of formula.now)) + length (bound_names (tree_of formula.now))) }
+    ensures few { let free = free_names bytes.now [] (tree_of formula.now) in
+        let most = length free + length (bound_names (tree_of formula.now)) in
+        IfOk result (λ input. length input.names ≤ most) }
 {
     let mut occurrences = Vec::new(alloc);
     push_free(&mut occurrences, bytes, &mut Vec::new(alloc), formula)?;
@@ -76,7 +81,8 @@ fn read_tree(alloc: Global, bytes: &[u8], formula: &Formula) -> Result<Input, Re
 
 /// Reads a text of at most 1,048,576 bytes: the formula with the names of its variables, or the first fault.
 ///
-/// The free names have the numbers from 0 in the order of their bytes, and the bound ones follow in the order of the text.
+/// The free names have the numbers from 0 in the order of their bytes,
+/// and the bound ones follow in the order of the text.
 pub fn read(alloc: Global, bytes: &[u8]) -> Result<Input, ReadFault>
     requires { length bytes.now ≤ 1048576 }
     ensures answers { Answers bytes.now result }

@@ -38,7 +38,8 @@ fn literal(number: u128) -> Coef
 
 /// What an operation gave, with the offset of its operator where it met a limit.
 fn placed(place: u32, outcome: Result<Poly, PolyStop>) -> Result<Poly, ValueStop>
-    ensures { (limit : Option PolyLimit) (exact : Polynomial) → IsAnswer limit exact outcome → IsValue (at place limit exact) result }
+    ensures { (limit : Option PolyLimit) (exact : Polynomial)
+        → IsAnswer limit exact outcome → IsValue (at place limit exact) result }
 {
     match outcome {
         Ok(poly) => Ok(poly),

@@ -122,11 +122,11 @@ impl<'a> Cursor<'a> {
         let Some(next) = self.peek() else {
             return Err(Stop::Limit(TextFault::Syntax));
         };
-        if next != token {
-            return Err(Stop::Limit(TextFault::Syntax));
+        if next == token {
+            self.advance();
+            return Ok(());
         }
-        self.advance();
-        Ok(())
+        Err(Stop::Limit(TextFault::Syntax))
     }
 
     /// Takes an exponent, if it is at most so great.

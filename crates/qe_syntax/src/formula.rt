@@ -92,7 +92,9 @@ impl<'a> Parser<'a> {
     /// Takes the name that comes next, and opens its level.
     fn bind(&mut self, depth: u32) -> Result<(), Stop>
         requires { IsSome (head self.old.cursor) }
-        ensures { Binds depth result (head self.old.cursor) (with_end self.old.cursor) (with_end self.new.cursor) self.old.begun self.new.begun }
+        ensures { let old = with_end self.old.cursor in
+            let new = with_end self.new.cursor in
+            Binds depth result (head self.old.cursor) old new self.old.begun self.new.begun }
     {
         check_level(depth)?;
         self.begin()?;

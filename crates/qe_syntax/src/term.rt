@@ -12,7 +12,8 @@ use std::alloc::Global;
 
 /// A sum of one summand or more.
 fn sum(alloc: Global, first: Term, addends: Sequence<Addend>) -> Result<Term, OutOfMemory>
-    ensures { IfOk result (λ t. term_of t ≡ sum_of (term_of first) (addends_of (map addend_of addends))) }
+    ensures { let later = addends_of (map addend_of addends) in
+        IfOk result (λ t. term_of t ≡ sum_of (term_of first) later) }
 {
     if addends.items().is_empty() {
         return Ok(first);
@@ -22,7 +23,8 @@ fn sum(alloc: Global, first: Term, addends: Sequence<Addend>) -> Result<Term, Ou
 
 /// A product of one factor or more.
 fn product(alloc: Global, first: Term, factors: Sequence<Factor>) -> Result<Term, OutOfMemory>
-    ensures { IfOk result (λ t. term_of t ≡ product_of (term_of first) (factors_of (map factor_of factors))) }
+    ensures { let later = factors_of (map factor_of factors) in
+        IfOk result (λ t. term_of t ≡ product_of (term_of first) later) }
 {
     if factors.items().is_empty() {
         return Ok(first);

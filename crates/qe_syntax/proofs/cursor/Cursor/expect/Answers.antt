@@ -9,5 +9,5 @@ other_first : (ts : List Located) (t u : Token) → Some u ≡ head ts → (u �
 other_first [] t u h n us e = absurd cc
 other_first (l ∷ ls) t u h n us e = n (cc)
 
-pub returns-then-ne : goal.returns-then-ne
-returns-then-ne c = (refl, other_first c.args.self.now c.args.token c.in-Some.next c.in-Some.ensures (search rules))
+pub returns : goal.returns
+returns c = (refl, other_first c.args.self.now c.args.token c.in-Some.next c.in-Some.ensures (search rules))
