@@ -1,12 +1,10 @@
 -- What `guarded` answers, and what it tells of the guard and the point.
-use Rattle.std.specs.Prelude.{ℕ, ◌≡◌, ◌≢◌, ◌≤◌, ◌<◌, ◌⊎◌, Bool, true, false, Option, Some, None, Result, Ok, Err}
+use Rattle.std.specs.Prelude.{ℕ, ◌≡◌, ◌≢◌, ◌≤◌, ◌<◌, true, Option, Some, None, Result, Ok, Err}
 use Rattle.qe_tower.specs.Point as assignment
 use Rattle.qe_tower.specs.Number.{ValidNumber}
 use Rattle.qe_line.specs.Place.{Place}
 use Rattle.qe_poly.specs.Polynomial.{Polynomial}
 use Rattle.qe_poly.specs.Coefficients.{degree_in}
-use Rattle.qe_halt.specs.declared.halt.Halt.{Halt}
-use Rattle.qe_halt.specs.declared.halt.Halt.TheVariants as met
 use Rattle.qe_form.specs.Formula.{Formula, False}
 use Rattle.qe_form.specs.Plain.{IsPlainAndProper}
 use Rattle.qe_form.specs.Same.{IsFree}

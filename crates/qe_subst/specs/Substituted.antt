@@ -1,6 +1,6 @@
 -- What stands for a formula in which a variable x of degree two at most is a test point; after
 -- Weispfenning (1997) and Loos and Weispfenning (1993).
-use Rattle.std.specs.Prelude.{ℕ, zero, suc, Bool, true, false, cond, eqb, [], ◌∷◌, Option, None, Some}
+use Rattle.std.specs.Prelude.{ℕ, zero, suc, Bool, false, cond, eqb, [], ◌∷◌, Option, None, Some}
 use Rattle.qe_poly.specs.Polynomial.{Polynomial}
 use Rattle.qe_poly.specs.Coefficients.{degree_in, coefficient_in, derivative}
 use Rattle.qe_poly.specs.Limits.{derivative_limit}
