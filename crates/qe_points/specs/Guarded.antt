@@ -30,13 +30,13 @@ use Rattle.qe_points.specs.Guard.{guard, point_of, limit}
 -- ---- candidates with a guard
 
 -- the polynomial has degree one or two for a linear root, and two for the others
-abbrev pub Fits : ℕ → Polynomial → Which → Type 0
-Fits x f Linear = (0 < degree_in x f) × (degree_in x f ≤ 2)
-Fits x f Upper = degree_in x f ≡ 2
-Fits x f Lower = degree_in x f ≡ 2
+abbrev pub HasKind : ℕ → Polynomial → Which → Type 0
+HasKind x f Linear = (0 < degree_in x f) × (degree_in x f ≤ 2)
+HasKind x f Upper = degree_in x f ≡ 2
+HasKind x f Lower = degree_in x f ≡ 2
 
 abbrev pub HasRoot : ℕ → Candidate → Type 0
-HasRoot x (Root f n which plus) = Fits x f which
+HasRoot x (Root f n which plus) = HasKind x f which
 HasRoot x MinusInf = Unit {0}
 
 -- the variable occurs in the candidate's polynomial

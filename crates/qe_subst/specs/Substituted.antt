@@ -130,8 +130,8 @@ module _ (x : ℕ) where
     abbrev pub for_atom : atom.Atom → Formula
     for_atom a = cond (eqb (degree_in x a.poly) 0) (Atom a) (at_point a.poly a.signs)
 
-    abbrev pub fault_of : atom.Atom → Option Fault
-    fault_of a = cond (eqb (degree_in x a.poly) 0) None (at_point_fault a.poly a.signs)
+    abbrev pub atom_fault : atom.Atom → Option Fault
+    atom_fault a = cond (eqb (degree_in x a.poly) 0) None (at_point_fault a.poly a.signs)
 
     -- an And or an Or goes by its parts, and what is no atom stays
     abbrev mutual
