@@ -27,7 +27,7 @@ use Rattle.qe_points.specs.declared.guard.GuardedPoint.{GuardedPoint}
 use Rattle.qe_points.specs.Guard.{guard, point_of, limit}
 use Rattle.qe_points.specs.Guarded.{own, IsGuarded, IsSound}
 use Rattle.qe_subst.specs.Substituted.{substituted}
-use Rattle.qe_subst.specs.Stop.{first_limit, size_limit, stop}
+use Rattle.qe_subst.specs.Stop.{first_stop, size_limit, stop}
 use Rattle.qe_node.specs.declared.trial.Trial.{Trial}
 use Rattle.qe_form.specs.Making.{is_false}
 use Rattle.qe_node.specs.Successors.{skipped, put_in, after_limit, tried}
@@ -69,7 +69,7 @@ after_first (Some s) rest none = absurd (cc)
 after_first None rest none = none
 
 pub substituted_small : (x : ℕ) (p : Point) (from : Option Polynomial) (f : Formula) → stop x p from f ≡ None → count (substituted x p from f) ≤ 65536
-substituted_small x p from f none = no_size_limit (count (substituted x p from f)) (after_first (first_limit x p from 0 (atoms f)) (size_limit x p from f) none)
+substituted_small x p from f none = no_size_limit (count (substituted x p from f)) (after_first (first_stop x p from 0 (atoms f)) (size_limit x p from f) none)
 
 pub proper_plain : (f : Formula) → IsPlainAndProper f → IsPlain f
 proper_plain f h = plain_weaker (λ a. IsProper a.signs) (λ a. Unit {0}) (λ a k. tt) f h

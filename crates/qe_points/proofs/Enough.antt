@@ -30,7 +30,7 @@ use Rattle.qe_points.specs.declared.candidate.Candidate.{Candidate}
 use Rattle.qe_points.specs.declared.candidate.Candidate.TheVariants.{Root, MinusInf}
 use Rattle.qe_points.specs.Candidates.{Numbered, gives, numbered, distinct, roots_of, roots, candidates}
 use Rattle.qe_points.specs.Guard.{guard, turned, root_of_kind, point_of}
-use Rattle.qe_points.specs.Guarded.{Fits, IsOf}
+use Rattle.qe_points.specs.Guarded.{HasKind, IsOf}
 use Rattle.qe_points.specs.Complete.{HoldsAtCandidate, HoldsAtOne, IsComplete}
 use Rattle.qe_points.proofs.Members.{IsIn, in_left, in_right, of_append, in_flat, of_flat, of_map, all_in, of_all, in_distinct, of_distinct}
 use Rattle.qe_points.proofs.OnLine.{IsRootOf, atom_reaches, formula_reaches}
@@ -112,7 +112,7 @@ not_one n e t = grind (arith, nat_tests)
 not_two : (n : ℕ) → n ≡ 2 → eqb n 2 ≡ false → ⊥
 not_two n e t = grind (arith, nat_tests)
 
-in_roots_of : (x : ℕ) (plus : Bool) (g : Numbered) (which : Which) → Fits x g.0 which → IsIn (Root g.0 g.1 which plus) (roots_of x plus g)
+in_roots_of : (x : ℕ) (plus : Bool) (g : Numbered) (which : Which) → HasKind x g.0 which → IsIn (Root g.0 g.1 which plus) (roots_of x plus g)
 in_roots_of x plus g Linear fits = in_cond _ (eqb (degree_in x g.0) 1) _ _ (λ t. inl refl) (λ t. in_cond _ (eqb (degree_in x g.0) 2) _ _ (λ u. inl refl) (λ u. absurd (neither (degree_in x g.0) fits.0 fits.1 t u)))
   where
     neither : (n : ℕ) → 0 < n → n ≤ 2 → eqb n 1 ≡ false → eqb n 2 ≡ false → ⊥
@@ -120,7 +120,7 @@ in_roots_of x plus g Linear fits = in_cond _ (eqb (degree_in x g.0) 1) _ _ (λ t
 in_roots_of x plus g Upper fits = in_cond _ (eqb (degree_in x g.0) 1) _ _ (λ t. absurd (not_one (degree_in x g.0) fits t)) (λ t. in_cond _ (eqb (degree_in x g.0) 2) _ _ (λ u. inr (inl refl)) (λ u. absurd (not_two (degree_in x g.0) fits u)))
 in_roots_of x plus g Lower fits = in_cond _ (eqb (degree_in x g.0) 1) _ _ (λ t. absurd (not_one (degree_in x g.0) fits t)) (λ t. in_cond _ (eqb (degree_in x g.0) 2) _ _ (λ u. inr (inr (inl refl))) (λ u. absurd (not_two (degree_in x g.0) fits u)))
 
-of_roots_of : (x : ℕ) (plus : Bool) (g : Numbered) (c : Candidate) → IsIn c (roots_of x plus g) → (which : Which) × (c ≡ Root g.0 g.1 which plus) × Fits x g.0 which
+of_roots_of : (x : ℕ) (plus : Bool) (g : Numbered) (c : Candidate) → IsIn c (roots_of x plus g) → (which : Which) × (c ≡ Root g.0 g.1 which plus) × HasKind x g.0 which
 of_roots_of x plus g c i = one (eqb (degree_in x g.0) 1) refl (eqb (degree_in x g.0) 2) refl i
   where
     is_one : (n : ℕ) → eqb n 1 ≡ true → (0 < n) × (n ≤ 2)
@@ -134,7 +134,7 @@ of_roots_of x plus g c i = one (eqb (degree_in x g.0) 1) refl (eqb (degree_in x 
 
     one : (b : Bool) → eqb (degree_in x g.0) 1 ≡ b → (d : Bool) → eqb (degree_in x g.0) 2 ≡ d
         → IsIn c (cond b (Root g.0 g.1 Linear plus ∷ []) (cond d (Root g.0 g.1 Linear plus ∷ Root g.0 g.1 Upper plus ∷ Root g.0 g.1 Lower plus ∷ []) []))
-        → (which : Which) × (c ≡ Root g.0 g.1 which plus) × Fits x g.0 which
+        → (which : Which) × (c ≡ Root g.0 g.1 which plus) × HasKind x g.0 which
     one true t d u (inl e) = (Linear, sym e, is_one (degree_in x g.0) t)
     one true t d u (inr k) = absurd k
     one false t true u (inl e) = (Linear, sym e, some_of_two (degree_in x g.0) (is_two (degree_in x g.0) u))
@@ -228,15 +228,15 @@ module _ (x : ℕ) (f : Formula) (p : Point) (valid : IsPoint p) where
       above : (n : ℕ) → 0 < n → nat_lt 0 n ≡ true
       above n less = grind (arith, nat_tests)
 
-  positive : (q : Polynomial) (which : Which) → Fits x q which → 0 < degree_in x q
+  positive : (q : Polynomial) (which : Which) → HasKind x q which → 0 < degree_in x q
   positive q Linear fits = fits.0
   positive q Upper fits = omega arith
   positive q Lower fits = omega arith
 
-  at_plain : (g : Numbered) (which : Which) → IsIn g (group x true f) → Fits x g.0 which → IsIn (Root g.0 g.1 which false) (candidates x f)
+  at_plain : (g : Numbered) (which : Which) → IsIn g (group x true f) → HasKind x g.0 which → IsIn (Root g.0 g.1 which false) (candidates x f)
   at_plain g which i fits = in_left _ (roots x false (group x true f)) _ (in_flat (roots_of x false) _ g (group x true f) i (in_roots_of x false g which fits))
 
-  at_plus : (g : Numbered) (which : Which) → IsIn g (group x false f) → Fits x g.0 which → IsIn (Root g.0 g.1 which true) (candidates x f)
+  at_plus : (g : Numbered) (which : Which) → IsIn g (group x false f) → HasKind x g.0 which → IsIn (Root g.0 g.1 which true) (candidates x f)
   at_plus g which i fits = in_right _ (roots x false (group x true f)) _
       (in_left _ (roots x true (group x false f)) (MinusInf ∷ []) (in_flat (roots_of x true) _ g (group x false f) i (in_roots_of x true g which fits)))
 
@@ -245,7 +245,7 @@ module _ (x : ℕ) (f : Formula) (p : Point) (valid : IsPoint p) where
       → IsPlaceOfOne x (candidates x f) f p (root_place a.signs.zero r)
   at_root a i low which r h = by a.signs.zero refl
     where
-      fits : Fits x a.poly which
+      fits : HasKind x a.poly which
       fits = has_degree p valid x a.poly which r low h
 
       by : (zero : Bool) → a.signs.zero ≡ zero → IsPlaceOfOne x (candidates x f) f p (root_place zero r)
@@ -253,7 +253,7 @@ module _ (x : ℕ) (f : Formula) (p : Point) (valid : IsPoint p) where
           let g = in_group true a i (positive a.poly which fits) e in
           let h : IsRootAt p valid x g.0.0 which r = subst (λ q. IsRootAt p valid x q which r) (sym g.2) h in (
             Root g.0.0 g.0.1 which false,
-            at_plain g.0 which g.1 (subst (λ q. Fits x q which) (sym g.2) fits),
+            at_plain g.0 which g.1 (subst (λ q. HasKind x q which) (sym g.2) fits),
             guard_true p valid x g.0.0 which r h,
             to_value p valid (turned (root_of_kind x g.0.0 which)) r (turned_value p valid (root_of_kind x g.0.0 which) r (to_root p valid x g.0.0 which r h)),
           )
@@ -261,7 +261,7 @@ module _ (x : ℕ) (f : Formula) (p : Point) (valid : IsPoint p) where
           let g = in_group false a i (positive a.poly which fits) (ap not e) in
           let h : IsRootAt p valid x g.0.0 which r = subst (λ q. IsRootAt p valid x q which r) (sym g.2) h in (
             Root g.0.0 g.0.1 which true,
-            at_plus g.0 which g.1 (subst (λ q. Fits x q which) (sym g.2) fits),
+            at_plus g.0 which g.1 (subst (λ q. HasKind x q which) (sym g.2) fits),
             guard_true p valid x g.0.0 which r h,
             to_value p valid (turned (root_of_kind x g.0.0 which)) r (turned_value p valid (root_of_kind x g.0.0 which) r (to_root p valid x g.0.0 which r h)),
           )

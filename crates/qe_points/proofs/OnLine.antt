@@ -1,21 +1,18 @@
 -- Formulas with And and Or over polynomials of degree two at most in one variable, as that variable goes along the line of the numbers.
-use Rattle.std.proofs.Common.{ℕ, ◌≡◌, ◌∙◌, ◌≤◌, inl, inr, refl, sym, ap, subst, Bool, true, false, T, ◌∷◌}
-use Rattle.qe_ring.specs.Sign.{Sign}
-use Rattle.qe_tower.specs.Number.{sign_of, ValidNumber}
+use Rattle.std.proofs.Common.{ℕ, ◌≡◌, ◌∙◌, ◌≤◌, inl, inr, refl, sym, ap, subst, Bool, true, false, T}
+use Rattle.qe_tower.specs.Number.{ValidNumber}
 use Rattle.qe_tower.specs.Point.{Point, IsPoint}
-use Rattle.qe_tower.proofs.ValidNumbers.{valid_operations, valid_sign, valid_ordered}
+use Rattle.qe_tower.proofs.ValidNumbers.{valid_operations, valid_sign}
 use Rattle.qe_line.specs.Place.{Place, below}
 use Rattle.qe_line.specs.Quadratic.{quadratic, IsRoot}
 use Rattle.qe_line.specs.Numbers.{numbers}
 use Rattle.qe_line.proofs.Reach.{root_place, Reach, reach_here, reach_then, reach_both}
 use Rattle.qe_line.proofs.Atoms.{reach_atom}
 use Rattle.qe_poly.specs.Polynomial.{Polynomial, IsPolynomial}
-use Rattle.qe_poly.specs.Coefficients.{degree_in, coefficient_in}
+use Rattle.qe_poly.specs.Coefficients.{degree_in}
 use Rattle.qe_form.specs.declared.form.Atom as atom
 use Rattle.qe_form.specs.Formula.{Formula, Formulas, True, False, Atom, And, Or, Not, Implies, Iff, Ex, All, no_more, more}
-use Rattle.qe_form.specs.Value.{value}
 use Rattle.qe_form.specs.Truth.{has_sign, Is, EachIs, SomeIs}
-use Rattle.qe_form.proofs.Values.{value_valid, value_of_quadratic}
 use Rattle.qe_form.specs.Plain.{IsPlain, ArePlainWith}
 use Rattle.qe_root.specs.Atoms.{atoms, atoms_of}
 use Rattle.qe_root.proofs.OnLine.{at_number, coefficient, sign_with}

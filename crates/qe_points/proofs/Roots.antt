@@ -28,7 +28,7 @@ use Rattle.qe_root.proofs.RootValue.{IsValidRoot}
 use Rattle.qe_points.specs.declared.candidate.Which.{Which}
 use Rattle.qe_points.specs.declared.candidate.Which.TheVariants.{Linear, Upper, Lower}
 use Rattle.qe_points.specs.Guard.{discriminant_by, discriminant, linear_guard, quadratic_guard, root_guard, turned, quadratic_root, root_of_kind}
-use Rattle.qe_points.specs.Guarded.{Fits}
+use Rattle.qe_points.specs.Guarded.{HasKind}
 use Rattle.qe_poly.specs.Numbers.{is_negative}
 use Rattle.qe_root.proofs.OnLine.{sign_with, no_coefficient}
 
@@ -220,7 +220,7 @@ module _ (p : Point) (valid : IsPoint p) where
         by (suc (suc (suc n))) e l = absurd (omega arith)
 
     -- a polynomial with such a root has the degree of its kind
-    pub has_degree : (which : Which) (v : ValidNumber) → degree_in x f ≤ 2 → IsRootAt which v → Fits x f which
+    pub has_degree : (which : Which) (v : ValidNumber) → degree_in x f ≤ 2 → IsRootAt which v → HasKind x f which
     has_degree Linear v low h = (positive (degree_in x f) refl, low)
       where
         positive : (n : ℕ) → degree_in x f ≡ n → 0 < n
@@ -260,18 +260,18 @@ module _ (p : Point) (valid : IsPoint p) where
     quadratic_says : Is (quadratic_guard x f) true p → IsNotZero (valid_sign A) × IsNotMinus (valid_sign (line.discriminant valid_operations A B C))
     quadratic_says g = (not_equal_sign (valid_sign A) g.0, subst (λ s. IsNotMinus s) radicand_is (at_least_sign (valid_sign (val (discriminant x f))) g.1.0))
 
-    at_most_two : (which : Which) → Fits x f which → degree_in x f ≤ 2
+    at_most_two : (which : Which) → HasKind x f which → degree_in x f ≤ 2
     at_most_two Linear fits = fits.1
     at_most_two Upper fits = omega arith
     at_most_two Lower fits = omega arith
 
-    pub guard_flat : (which : Which) → Fits x f which → Is (root_guard x f which) true p → IsFlat which
+    pub guard_flat : (which : Which) → HasKind x f which → Is (root_guard x f which) true p → IsFlat which
     guard_flat Linear fits g = (linear_says fits.1 g).0
     guard_flat Upper fits g = tt
     guard_flat Lower fits g = tt
 
     -- so where it is true there is such a root
-    pub root_exists : (which : Which) → Fits x f which → Is (root_guard x f which) true p → (v : ValidNumber) × IsRootAt which v
+    pub root_exists : (which : Which) → HasKind x f which → Is (root_guard x f which) true p → (v : ValidNumber) × IsRootAt which v
     root_exists Linear fits g =
         let says = linear_says fits.1 g in
         let found = has_value numbers (neg C) zero zero B says.1 tt in (found.0, (says.0, found.1))

@@ -34,7 +34,7 @@ use Rattle.qe_points.specs.declared.candidate.Candidate.TheVariants.{Root}
 use Rattle.qe_points.specs.declared.guard.GuardedPoint.{GuardedPoint}
 use Rattle.qe_points.specs.declared.guard.RootWithGuard.{RootWithGuard}
 use Rattle.qe_points.specs.Guard.{discriminant, root_guard, turned, quadratic_root, root_of_kind, at_or_above}
-use Rattle.qe_points.specs.Guarded.{Fits, HasRoot, IsMade, IsGuardedBy, IsThere, IsSound}
+use Rattle.qe_points.specs.Guarded.{HasKind, HasRoot, IsMade, IsGuardedBy, IsThere, IsSound}
 use Rattle.qe_poly.proofs.Occurring.{occurs_coefficient, occurs_negative, occurs_scaled, occurs_difference, occurs_product}
 use Rattle.qe_root.proofs.RootValue.{to_value, of_value}
 use Rattle.qe_points.proofs.Roots.{turned_value, of_turned, to_root, of_root, guard_flat, root_exists, zero_there}
@@ -109,11 +109,11 @@ module _ (x : ℕ) (f : Polynomial) (canonical : IsPolynomial f) (y : ℕ) where
 
 -- ---- the point is there
 
-module _ (x : ℕ) (f : Polynomial) (n : ℕ) (which : Which) (canonical : IsPolynomial f) (fits : Fits x f which) where
+module _ (x : ℕ) (f : Polynomial) (n : ℕ) (which : Which) (canonical : IsPolynomial f) (fits : HasKind x f which) where
   low : degree_in x f ≤ 2
   low = by which fits
     where
-      by : (which : Which) → Fits x f which → degree_in x f ≤ 2
+      by : (which : Which) → HasKind x f which → degree_in x f ≤ 2
       by Linear fits = fits.1
       by Upper fits = omega arith
       by Lower fits = omega arith
@@ -160,7 +160,7 @@ plain_guard x f Upper = (tt, (tt, tt))
 plain_guard x f Lower = (tt, (tt, tt))
 
 -- what is made is sound
-pub made_sound : (x : ℕ) (f : Polynomial) (n : ℕ) (which : Which) (plus : Bool) (guard g : Formula) (p : Point) (k : RootPoint) → IsPolynomial f → Fits x f which
+pub made_sound : (x : ℕ) (f : Polynomial) (n : ℕ) (which : Which) (plus : Bool) (guard g : Formula) (p : Point) (k : RootPoint) → IsPolynomial f → HasKind x f which
     → guard ≡ root_guard x f which → k ≡ root_of_kind x f which → p ≡ at_or_above plus (turned k) → Keeps guard g → (IsPlain guard → IsSimplified g) → IsSound x (Root f n which plus) g p
 made_sound x f n which plus guard g p k canonical fits guard_is root_is point_is kept simple =
     subst (λ z. IsSound x (Root f n which plus) g z) (sym (subst (λ z. p ≡ at_or_above plus (turned z)) root_is point_is))

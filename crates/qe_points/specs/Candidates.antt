@@ -11,8 +11,8 @@ use Rattle.qe_root.specs.Atoms.{atoms}
 use Rattle.qe_points.specs.declared.candidate.Which.TheVariants.{Linear, Upper, Lower}
 use Rattle.qe_points.specs.declared.candidate.Candidate.{Candidate}
 use Rattle.qe_points.specs.declared.candidate.Candidate.TheVariants.{Root, MinusInf}
-use Rattle.qe_points.specs.declared.candidate_list.Spot.{Spot}
-use Rattle.qe_points.specs.declared.candidate_list.Spot.TheVariants.{At, Above}
+use Rattle.qe_points.specs.declared.candidate.Spot.{Spot}
+use Rattle.qe_points.specs.declared.candidate.Spot.TheVariants.{At, Above}
 
 -- a polynomial with the number of an atom
 abbrev pub Numbered : Type 0
@@ -59,7 +59,7 @@ candidates x f =
 abbrev pub with_one : List Numbered → Numbered → List Numbered
 with_one gs g = cond (list_any (λ h. poly_eq g.0 h.0) gs) gs (gs ++ g ∷ [])
 
--- whether candidates stand just above roots
+-- whether a candidate stands just above its root
 abbrev pub is_above : Spot → Bool
 is_above At = false
 is_above Above = true

@@ -1,12 +1,10 @@
 -- What `guarded` answers, and what it tells of the guard and the point.
-use Rattle.std.specs.Prelude.{ℕ, ◌≡◌, ◌≢◌, ◌≤◌, ◌<◌, ◌⊎◌, Bool, true, false, Option, Some, None, Result, Ok, Err}
+use Rattle.std.specs.Prelude.{ℕ, ◌≡◌, ◌≢◌, ◌≤◌, ◌<◌, true, Option, Some, None, Result, Ok, Err}
 use Rattle.qe_tower.specs.Point as assignment
 use Rattle.qe_tower.specs.Number.{ValidNumber}
 use Rattle.qe_line.specs.Place.{Place}
 use Rattle.qe_poly.specs.Polynomial.{Polynomial}
 use Rattle.qe_poly.specs.Coefficients.{degree_in}
-use Rattle.qe_halt.specs.declared.halt.Halt.{Halt}
-use Rattle.qe_halt.specs.declared.halt.Halt.TheVariants as met
 use Rattle.qe_form.specs.Formula.{Formula, False}
 use Rattle.qe_form.specs.Plain.{IsPlainAndProper}
 use Rattle.qe_form.specs.Same.{IsFree}
@@ -32,13 +30,13 @@ use Rattle.qe_points.specs.Guard.{guard, point_of, limit}
 -- ---- candidates with a guard
 
 -- the polynomial has degree one or two for a linear root, and two for the others
-abbrev pub Fits : ℕ → Polynomial → Which → Type 0
-Fits x f Linear = (0 < degree_in x f) × (degree_in x f ≤ 2)
-Fits x f Upper = degree_in x f ≡ 2
-Fits x f Lower = degree_in x f ≡ 2
+abbrev pub HasKind : ℕ → Polynomial → Which → Type 0
+HasKind x f Linear = (0 < degree_in x f) × (degree_in x f ≤ 2)
+HasKind x f Upper = degree_in x f ≡ 2
+HasKind x f Lower = degree_in x f ≡ 2
 
 abbrev pub HasRoot : ℕ → Candidate → Type 0
-HasRoot x (Root f n which plus) = Fits x f which
+HasRoot x (Root f n which plus) = HasKind x f which
 HasRoot x MinusInf = Unit {0}
 
 -- the variable occurs in the candidate's polynomial

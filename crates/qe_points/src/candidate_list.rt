@@ -10,6 +10,7 @@ ghost use Rattle.qe_points.specs.Candidates as spec;
 ghost use Rattle.qe_points.specs.Guarded.{IsOf};
 ghost use Rattle.qe_points.specs.Complete.{IsComplete};
 
+use crate::candidate::Spot;
 use crate::{Candidate, Form, OutOfMemory, Poly, Var, Which};
 use indexmap::IndexMap;
 use qe_form::{Atom, Forms};
@@ -84,30 +85,6 @@ fn grouped(alloc: Global, x: Var, atoms: &[&Atom]) -> Result<Groups, OutOfMemory
         }
     }
     Ok(Groups { zero, other })
-}
-
-/// Where candidates stand that come from roots.
-#[derive(Clone, Copy)]
-enum Spot {
-    /// At the roots.
-    At,
-    /// Just above the roots.
-    Above,
-}
-
-impl Spot {
-    ghost use Rattle.std.specs.Prelude.{◌≡◌};
-    ghost use Rattle.qe_points.specs.Candidates.{is_above};
-
-    /// Whether it is just above the roots.
-    fn is_above(self) -> bool
-        ensures { result ≡ is_above self }
-    {
-        match self {
-            Spot::At => false,
-            Spot::Above => true,
-        }
-    }
 }
 
 /// Adds the candidates that come from the roots of a polynomial.

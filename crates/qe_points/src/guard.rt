@@ -9,9 +9,11 @@ ghost use Rattle.qe_form.specs.Plain.{IsPlain};
 ghost use Rattle.qe_simp.specs.Meaning.{Keeps};
 ghost use Rattle.qe_simp.specs.Shape.{IsSimplified};
 ghost use Rattle.qe_form.specs.Tree.{tree};
+ghost use Rattle.qe_points.specs.Candidates.{is_above};
 ghost use Rattle.qe_points.specs.Guard as meaning;
 ghost use Rattle.qe_points.specs.Guarded.{HasRoot, IsGuardedBy, IsMade, IsSound, IsGuardAnswer};
 
+use crate::candidate::Spot;
 use crate::{Candidate, Form, OutOfMemory, Point, Poly, RootPoint, Stage, SubstStop, Var, Which};
 use qe_coef::Coef;
 use qe_form::Signs;
@@ -133,10 +135,11 @@ fn turned(alloc: Global, root: RootPoint) -> Result<RootPoint, OutOfMemory>
 fn guarded_root(
     alloc: Global,
     found: RootWithGuard,
-    plus: bool,
+    spot: Spot,
 ) -> Result<Option<GuardedPoint>, OutOfMemory>
     ensures exact { IfOk result
-        (IsGuardedBy (tree found.guard) (meaning.at_or_above plus (meaning.turned found.root))) }
+        (IsGuardedBy (tree found.guard)
+        (meaning.at_or_above (is_above spot) (meaning.turned found.root))) }
     ensures kept { IfOk result (λ o. IfSome o (λ g. Keeps (tree found.guard) (tree g.guard))) }
     ensures plain { IfOk result
         (λ o. IfSome o (λ g. IsPlain (tree found.guard) → IsSimplified (tree g.guard))) }
@@ -147,10 +150,9 @@ fn guarded_root(
         return Ok(None);
     }
     let root = turned(alloc, root)?;
-    let point = if plus {
-        Point::RootPlus(root)
-    } else {
-        Point::Root(root)
+    let point = match spot {
+        Spot::At => Point::Root(root),
+        Spot::Above => Point::RootPlus(root),
     };
     Ok(Some(GuardedPoint { guard, point }))
 }
@@ -189,7 +191,7 @@ pub fn guarded(
             which,
             plus,
         } => match root(alloc, poly, x, *which) {
-            Ok(found) => Ok(guarded_root(alloc, found, *plus)?),
+            Ok(found) => Ok(guarded_root(alloc, found, Spot::of(*plus))?),
             Err(PolyStop::Limit(limit)) => Err(SubstStop::At {
                 atom: *atom,
                 stage: Stage::Guard,

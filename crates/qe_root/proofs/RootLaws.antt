@@ -6,7 +6,7 @@ use Rattle.qe_ring.specs.Ordered.{EqualBySign}
 use Rattle.qe_ring.proofs.Finite.{any, given, Claim, decide, is-eq, to_is}
 use Rattle.qe_tower.specs.Number.{Number, sign_of, add, mul, ValidNumber}
 use Rattle.qe_tower.specs.Point.{Point, IsPoint}
-use Rattle.qe_tower.proofs.ValidNumbers.{valid_operations, valid_sign}
+use Rattle.qe_tower.proofs.ValidNumbers.{valid_operations}
 use Rattle.qe_line.specs.Field.{IsEuclideanField}
 use Rattle.qe_line.specs.Numbers.{numbers}
 use Rattle.qe_line.proofs.Equal.{one_value}

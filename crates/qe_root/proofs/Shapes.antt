@@ -1,5 +1,5 @@
 -- What holds of each thing at the atoms of a shape.
-use Rattle.std.proofs.Common.{ℕ, inl, inr, ◌⊎◌, Bool, true, false}
+use Rattle.std.proofs.Common.{ℕ, inl, inr, Bool, true, false}
 use Rattle.qe_poly.specs.Polynomial.{Polynomial}
 use Rattle.qe_poly.specs.Occurs.{OccursInSome}
 use Rattle.qe_form.specs.declared.signs.Signs.{Signs}

@@ -1,5 +1,5 @@
 -- The formula for the sign of A + B*sqrt(r) is true at the points where that sign is in the set, and false at the others.
-use Rattle.std.proofs.Common.{Option, Result, Ok, Err, IfOk, ◌≡◌, ◌↔◌, ◌⊎◌, inl, inr, refl, sym, ap, ap₂, subst, ◌∙◌, T, Bool, true, false, ◌&&◌, ◌||◌, [], ◌∷◌}
+use Rattle.std.proofs.Common.{Option, Result, Ok, Err, IfOk, ◌≡◌, refl, sym, ap, ap₂, subst, ◌∙◌, T, Bool, true, false, [], ◌∷◌}
 use Rattle.qe_ring.specs.Ring.{difference}
 use Rattle.qe_ring.specs.Expression.{var, nought, ◌⊕◌, ⊖◌, ◌⊗◌, ◌⊝◌}
 use Rattle.qe_ring.specs.Sign.{Sign, IsNotMinus, opposite, ◌·◌, adds, pick}
@@ -17,7 +17,7 @@ use Rattle.qe_form.specs.declared.form.Form.{Form}
 use Rattle.qe_form.specs.Formula.{Formula}
 use Rattle.qe_form.specs.Tree.{tree}
 use Rattle.qe_form.specs.Value.{value}
-use Rattle.qe_form.specs.Truth.{has_sign, Is}
+use Rattle.qe_form.specs.Truth.{has_sign}
 use Rattle.qe_form.proofs.Values.{value_of_negative, value_of_product}
 use Rattle.qe_halt.specs.Outcome.{IsOutcome}
 use Rattle.qe_root.specs.Shape.{Shape, atom, conjunction, disjunction, formula, is_met}

@@ -1,5 +1,5 @@
 -- Formulas that are true at a point where a test holds, and false where it does not.
-use Rattle.std.proofs.Common.{◌≡◌, ◌∙◌, ◌⊎◌, ◌↔◌, inl, inr, refl, sym, ap, subst, Bool, true, false, ◌&&◌, ◌||◌}
+use Rattle.std.proofs.Common.{◌≡◌, ◌∙◌, ◌↔◌, inl, inr, refl, sym, ap, subst, Bool, true, false, ◌&&◌, ◌||◌}
 use Rattle.qe_ring.specs.Sign.{Sign}
 use Rattle.qe_ring.proofs.Bools.{both_hold, one_fails, one_holds, neither, both_fail}
 use Rattle.qe_tower.specs.Number.{sign_of}

@@ -1,5 +1,5 @@
-//! The formula for the sign of `A + B*sqrt(r)`, by the signs of `A`, `B`, `A*B` and `N = A^2 -
-//! B^2*r`.
+//! The formula for the sign of `A + B*sqrt(r)`, by the signs of `A`, `B`, `A*B` and
+//! `N = A^2 - B^2*r`.
 
 ghost use Rattle.std.specs.Prelude.{◌≡◌, IfOk};
 ghost use Rattle.qe_poly.specs.Polynomial as spec;

@@ -81,12 +81,12 @@ fn root_part(alloc: Global, alpha: &Poly, beta: &Poly, point: &RootPoint) -> Res
     double_term.add(alloc, &linear_term)
 }
 
-/// The polynomials `A` and `B` of the other variables with `s^2*f = A + B*sqrt(r)` at `x = (p +
-/// q*sqrt(r))/s`, wherever `s` is not 0 and `r` not negative; after Weispfenning (1997). The degree
-/// in `x` is at most 2. With `f = alpha*x^2 + beta*x + gamma` the operations are, in this order,
-/// those of `alpha*(p^2 + q^2*r)`, `beta*p*s` and `gamma*s^2`, the two sums to `A`, those of
-/// `2*alpha*p*q` and `beta*q*s`, and the sum to `B`; what `alpha` is multiplied by is left out
-/// where `alpha` is 0. The first limit that an operation meets is the answer.
+/// The polynomials `A` and `B` of the other variables with `s^2*f = A + B*sqrt(r)` at
+/// `x = (p + q*sqrt(r))/s`, wherever `s` is not 0 and `r` not negative; after Weispfenning (1997).
+/// The degree in `x` is at most 2. With `f = alpha*x^2 + beta*x + gamma` the operations are, in
+/// this order, those of `alpha*(p^2 + q^2*r)`, `beta*p*s` and `gamma*s^2`, the two sums to `A`,
+/// those of `2*alpha*p*q` and `beta*q*s`, and the sum to `B`; what `alpha` is multiplied by is left
+/// out where `alpha` is 0. The first limit that an operation meets is the answer.
 pub fn at_root(
     alloc: Global,
     poly: &Poly,

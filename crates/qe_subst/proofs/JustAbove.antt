@@ -1,5 +1,5 @@
 -- What is substituted just above a root reads the sign that the polynomial has there.
-use Rattle.std.proofs.Common.{ℕ, zero, suc, ◌≡◌, ◌∙◌, ◌≤◌, ◌<◌, refl, sym, ap, ap₂, subst, true, false, ◌&&◌, ◌||◌, pos, Option, [], ◌∷◌, arith}
+use Rattle.std.proofs.Common.{ℕ, zero, suc, ◌≡◌, ◌∙◌, ◌≤◌, ◌<◌, refl, sym, ap, ap₂, subst, ◌&&◌, ◌||◌, pos, Option, [], ◌∷◌, arith}
 use Rattle.qe_ring.specs.Expression.{var, nought, unit, constant, of_int, ◌⊕◌, ◌⊗◌}
 use Rattle.qe_ring.specs.Ring.{IsRing}
 use Rattle.qe_ring.specs.Sign.{Sign, Zero}

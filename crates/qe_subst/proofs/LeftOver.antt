@@ -1,5 +1,5 @@
 -- Which variables are left in the substituted formula.
-use Rattle.std.proofs.Common.{ℕ, zero, suc, ◌≡◌, ◌≢◌, ◌⊎◌, ◌<◌, ◌-◌, inl, inr, refl, sym, subst, Bool, true, false, cond, eqb, ℤ, pos, ◌*ℤ◌, Option, [], ◌∷◌, ◌++◌, map, arith}
+use Rattle.std.proofs.Common.{ℕ, zero, suc, ◌≡◌, ◌≢◌, ◌⊎◌, ◌<◌, ◌-◌, inl, inr, refl, sym, subst, true, false, cond, eqb, pos, ◌*ℤ◌, Option, [], ◌∷◌, ◌++◌, map, arith}
 use Rattle.std.proofs.lemmas.Bool.{eqb-true}
 use Rattle.qe_poly.specs.Monomial.{Monomial}
 use Rattle.qe_poly.specs.Polynomial.{Polynomial, IsPolynomial, negative, product, sum}

@@ -1,22 +1,21 @@
 -- A polynomial of degree two at most in one variable, as that variable goes along the line of the numbers.
 use Rattle.std.proofs.Common.{ℕ, ◌≡◌, ◌∙◌, ◌≤◌, ◌<◌, refl, ap, [], ◌∷◌, arith}
 use Rattle.qe_ring.specs.Expression.{nought, ◌⊗◌}
-use Rattle.qe_ring.specs.Sign.{Sign, Zero}
+use Rattle.qe_ring.specs.Sign.{Sign}
 use Rattle.qe_ring.proofs.Hypotheses.{fact}
 use Rattle.qe_tower.specs.Number.{sign_of, ValidNumber}
 use Rattle.qe_tower.specs.Point.{Point, IsPoint}
-use Rattle.qe_tower.proofs.ValidNumbers.{valid_operations, valid_sign, valid_ordered}
+use Rattle.qe_tower.proofs.ValidNumbers.{valid_operations, valid_sign}
 use Rattle.qe_line.specs.Place.{Place}
-use Rattle.qe_line.specs.Quadratic.{quadratic, sign_at}
+use Rattle.qe_line.specs.Quadratic.{sign_at}
 use Rattle.qe_line.specs.Numbers.{numbers}
 use Rattle.qe_line.proofs.Field.{same_by, equals_zero}
 use Rattle.qe_line.proofs.Letters.{A, B, C₀, X, Polynomial as Quadratic}
 use Rattle.qe_line.proofs.Places.{There, then}
 use Rattle.qe_line.proofs.SignAt.{sign_is}
 use Rattle.qe_poly.specs.Polynomial.{Polynomial, IsPolynomial}
-use Rattle.qe_poly.specs.Coefficients.{degree_in, coefficient_in}
+use Rattle.qe_poly.specs.Coefficients.{degree_in}
 use Rattle.qe_form.specs.Value.{value}
-use Rattle.qe_form.proofs.Values.{value_valid, value_of_quadratic}
 use Rattle.qe_root.proofs.OnLine.{at_number, coefficient, sign_on, sign_with, no_coefficient}
 use Rattle.qe_subst.proofs.Degrees.{coefficient_whole}
 

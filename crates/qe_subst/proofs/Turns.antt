@@ -11,7 +11,7 @@ use Rattle.qe_root.specs.declared.stop.SubstStop.TheVariants.{At, TooLarge, OutO
 use Rattle.qe_root.specs.Atoms.{atoms, atoms_of}
 use Rattle.qe_root.specs.Stops.{met_limit}
 use Rattle.qe_halt.specs.Outcome.{or_else, IsStopBy}
-use Rattle.qe_subst.specs.Stop.{next_number, number_after, limit_at, first_limit}
+use Rattle.qe_subst.specs.Stop.{next_number, number_after, limit_at, first_stop}
 
 or_else_assoc : (a b c : Option SubstStop) → or_else a (or_else b c) ≡ or_else (or_else a b) c
 or_else_assoc (Some s) b c = refl
@@ -20,37 +20,37 @@ or_else_assoc None b c = refl
 module _ (x : ℕ) (point : Point) (own : Option Polynomial) where
   -- the first limit of all is among the first atoms, or else among the others
   limit_of_both : (n : ℕ) (front back : List atom.Atom)
-      → first_limit x point own n (front ++ back) ≡ or_else (first_limit x point own n front) (first_limit x point own (number_after n front) back)
+      → first_stop x point own n (front ++ back) ≡ or_else (first_stop x point own n front) (first_stop x point own (number_after n front) back)
   limit_of_both n [] back = refl
   limit_of_both n (a ∷ front) back =
       ap (or_else (limit_at x point own n a)) (limit_of_both (next_number n) front back)
-      ∙ or_else_assoc (limit_at x point own n a) (first_limit x point own (next_number n) front) (first_limit x point own (number_after (next_number n) front) back)
+      ∙ or_else_assoc (limit_at x point own n a) (first_stop x point own (next_number n) front) (first_stop x point own (number_after (next_number n) front) back)
 
-  limit_found : (n : ℕ) (front back : List atom.Atom) (s : SubstStop) → first_limit x point own n front ≡ Some s → first_limit x point own n (front ++ back) ≡ Some s
-  limit_found n front back s found = limit_of_both n front back ∙ ap (λ o. or_else o (first_limit x point own (number_after n front) back)) found
+  limit_found : (n : ℕ) (front back : List atom.Atom) (s : SubstStop) → first_stop x point own n front ≡ Some s → first_stop x point own n (front ++ back) ≡ Some s
+  limit_found n front back s found = limit_of_both n front back ∙ ap (λ o. or_else o (first_stop x point own (number_after n front) back)) found
 
-  limit_passed : (n : ℕ) (front back : List atom.Atom) → first_limit x point own n front ≡ None → first_limit x point own n (front ++ back) ≡ first_limit x point own (number_after n front) back
-  limit_passed n front back none = limit_of_both n front back ∙ ap (λ o. or_else o (first_limit x point own (number_after n front) back)) none
+  limit_passed : (n : ℕ) (front back : List atom.Atom) → first_stop x point own n front ≡ None → first_stop x point own n (front ++ back) ≡ first_stop x point own (number_after n front) back
+  limit_passed n front back none = limit_of_both n front back ∙ ap (λ o. or_else o (first_stop x point own (number_after n front) back)) none
 
-  stop_found : (n : ℕ) (front back : List atom.Atom) (s : SubstStop) → IsStopBy met_limit (first_limit x point own n front) s → IsStopBy met_limit (first_limit x point own n (front ++ back)) s
+  stop_found : (n : ℕ) (front back : List atom.Atom) (s : SubstStop) → IsStopBy met_limit (first_stop x point own n front) s → IsStopBy met_limit (first_stop x point own n (front ++ back)) s
   stop_found n front back (At number stage limit) found = limit_found n front back (At number stage limit) found
   stop_found n front back TooLarge found = limit_found n front back TooLarge found
   stop_found n front back OutOfMemory found = tt
 
   -- in the loop: t is the next part, before what is left
   pub turn_stops : (n : ℕ) (t : Formula) (left rest : Formulas) (limit : Option SubstStop) (s : SubstStop) → left ≡ more t rest
-      → first_limit x point own n (atoms_of left) ≡ limit → IsStopBy met_limit (first_limit x point own n (atoms t)) s → IsStopBy met_limit limit s
+      → first_stop x point own n (atoms_of left) ≡ limit → IsStopBy met_limit (first_stop x point own n (atoms t)) s → IsStopBy met_limit limit s
   turn_stops n t left rest limit s taken before found =
-      subst (λ l. IsStopBy met_limit l s) (sym (ap (λ fs. first_limit x point own n (atoms_of fs)) taken) ∙ before) (stop_found n (atoms t) (atoms_of rest) s found)
+      subst (λ l. IsStopBy met_limit l s) (sym (ap (λ fs. first_stop x point own n (atoms_of fs)) taken) ∙ before) (stop_found n (atoms t) (atoms_of rest) s found)
 
   pub turn_passes : (n m : ℕ) (t : Formula) (left rest : Formulas) (limit : Option SubstStop) → left ≡ more t rest → m ≡ number_after n (atoms t)
-      → first_limit x point own n (atoms t) ≡ None → first_limit x point own n (atoms_of left) ≡ limit → first_limit x point own m (atoms_of rest) ≡ limit
+      → first_stop x point own n (atoms t) ≡ None → first_stop x point own n (atoms_of left) ≡ limit → first_stop x point own m (atoms_of rest) ≡ limit
   turn_passes n m t left rest limit taken counted none before =
-      ap (λ k. first_limit x point own k (atoms_of rest)) counted
-      ∙ (sym (limit_passed n (atoms t) (atoms_of rest) none) ∙ (sym (ap (λ fs. first_limit x point own n (atoms_of fs)) taken) ∙ before))
+      ap (λ k. first_stop x point own k (atoms_of rest)) counted
+      ∙ (sym (limit_passed n (atoms t) (atoms_of rest) none) ∙ (sym (ap (λ fs. first_stop x point own n (atoms_of fs)) taken) ∙ before))
 
-  pub loop_passes : (n : ℕ) (left : Formulas) (limit : Option SubstStop) → left ≡ no_more → first_limit x point own n (atoms_of left) ≡ limit → limit ≡ None
-  loop_passes n left limit none before = sym before ∙ ap (λ fs. first_limit x point own n (atoms_of fs)) none
+  pub loop_passes : (n : ℕ) (left : Formulas) (limit : Option SubstStop) → left ≡ no_more → first_stop x point own n (atoms_of left) ≡ limit → limit ≡ None
+  loop_passes n left limit none before = sym before ∙ ap (λ fs. first_stop x point own n (atoms_of fs)) none
 
 -- ---- the number
 

@@ -10,7 +10,7 @@ use Rattle.qe_root.specs.declared.stop.SubstStop.{SubstStop}
 use Rattle.qe_root.specs.declared.stop.SubstStop.TheVariants.{At, TooLarge}
 use Rattle.qe_root.specs.Atoms.{atoms}
 use Rattle.qe_subst.specs.declared.stop.Fault.{Fault}
-use Rattle.qe_subst.specs.Substituted.{substituted, fault_of}
+use Rattle.qe_subst.specs.Substituted.{substituted, atom_fault}
 
 -- the next number, up to the greatest of 64 bits, which no formula in a memory reaches
 abbrev pub next_number : ℕ → ℕ
@@ -28,12 +28,12 @@ at_atom n fault = At n fault.stage fault.limit
 module _ (x : ℕ) (point : Point) (own : Option Polynomial) where
   -- the limit at the atom with number n
   abbrev pub limit_at : ℕ → atom.Atom → Option SubstStop
-  limit_at n a = within (at_atom n) (fault_of x point own a)
+  limit_at n a = within (at_atom n) (atom_fault x point own a)
 
   -- the first limit in the order of the atoms, of which the first has number n
-  abbrev pub first_limit : ℕ → List atom.Atom → Option SubstStop
-  first_limit n [] = None
-  first_limit n (a ∷ rest) = or_else (limit_at n a) (first_limit (next_number n) rest)
+  abbrev pub first_stop : ℕ → List atom.Atom → Option SubstStop
+  first_stop n [] = None
+  first_stop n (a ∷ rest) = or_else (limit_at n a) (first_stop (next_number n) rest)
 
   -- the formula would have more than 65,536 atoms, constants counted
   abbrev pub size_limit : Formula → Option SubstStop
@@ -41,4 +41,4 @@ module _ (x : ℕ) (point : Point) (own : Option Polynomial) where
 
   -- a limit at an atom comes first
   abbrev pub stop : Formula → Option SubstStop
-  stop f = or_else (first_limit 0 (atoms f)) (size_limit f)
+  stop f = or_else (first_stop 0 (atoms f)) (size_limit f)

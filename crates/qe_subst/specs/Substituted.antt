@@ -1,6 +1,6 @@
 -- What stands for a formula in which a variable x of degree two at most is a test point; after
 -- Weispfenning (1997) and Loos and Weispfenning (1993).
-use Rattle.std.specs.Prelude.{ℕ, zero, suc, Bool, true, false, cond, eqb, [], ◌∷◌, Option, None, Some}
+use Rattle.std.specs.Prelude.{ℕ, zero, suc, Bool, false, cond, eqb, [], ◌∷◌, Option, None, Some}
 use Rattle.qe_poly.specs.Polynomial.{Polynomial}
 use Rattle.qe_poly.specs.Coefficients.{degree_in, coefficient_in, derivative}
 use Rattle.qe_poly.specs.Limits.{derivative_limit}
@@ -130,8 +130,8 @@ module _ (x : ℕ) where
     abbrev pub for_atom : atom.Atom → Formula
     for_atom a = cond (eqb (degree_in x a.poly) 0) (Atom a) (at_point a.poly a.signs)
 
-    abbrev pub fault_of : atom.Atom → Option Fault
-    fault_of a = cond (eqb (degree_in x a.poly) 0) None (at_point_fault a.poly a.signs)
+    abbrev pub atom_fault : atom.Atom → Option Fault
+    atom_fault a = cond (eqb (degree_in x a.poly) 0) None (at_point_fault a.poly a.signs)
 
     -- an And or an Or goes by its parts, and what is no atom stays
     abbrev mutual

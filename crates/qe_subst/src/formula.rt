@@ -39,7 +39,7 @@ impl TestPoint<'_> {
         requires degree { degree_in self.now.x.0 atom.now.poly ≤ 2 }
         requires proper { IsProper atom.now.signs }
         ensures made { let t = self.now in IsOutcome
-            (spec.fault_of t.x.0 t.point.now (option_copied t.own) atom.now)
+            (spec.atom_fault t.x.0 t.point.now (option_copied t.own) atom.now)
             (λ f. tree f ≡ spec.for_atom t.x.0 t.point.now (option_copied t.own) atom.now) result }
         ensures canonical { IsPolynomial atom.now.poly }
     {
@@ -87,7 +87,7 @@ impl TestPoint<'_> {
         requires degree { degree self.now.x.0 (tree form.now) ≤ 2 }
         requires plain { IsPlainAndProper (tree form.now) }
         ensures made { let t = self.now in let f = tree form.now in IsOutcomeBy met_limit
-            (meaning.first_limit t.x.0 t.point.now (option_copied t.own) number.old (atoms f))
+            (meaning.first_stop t.x.0 t.point.now (option_copied t.own) number.old (atoms f))
             (λ g. tree g ≡ spec.substituted t.x.0 t.point.now (option_copied t.own) f) result }
         ensures number { IfOk result
             (λ _. number.new ≡ meaning.number_after number.old (atoms (tree form.now))) }
@@ -118,7 +118,7 @@ impl TestPoint<'_> {
         requires degree { degree_of_some self.now.x.0 (trees forms.now) ≤ 2 }
         requires plain { ArePlainWith (λ a. IsProper a.signs) (trees forms.now) }
         ensures made { let t = self.now in let fs = trees forms.now in IsOutcomeBy met_limit
-            (meaning.first_limit t.x.0 t.point.now (option_copied t.own) number.old (atoms_of fs))
+            (meaning.first_stop t.x.0 t.point.now (option_copied t.own) number.old (atoms_of fs))
             (λ gs. trees gs
             ≡ spec.substituted_each t.x.0 t.point.now (option_copied t.own) fs) result }
         ensures number { IfOk result
