@@ -18,13 +18,15 @@ use qe_norm::{Block, Kind};
 use qe_simp::simplify;
 use std::alloc::Global;
 
-/// The formula at the root of the block's tree: the simplified matrix, which is negated first for `all`.
+/// The formula at the root of the block's tree: the simplified matrix, which is negated first for
+/// `all`.
 fn root_of(alloc: Global, kind: Kind, matrix: Form) -> Result<Form, OutOfMemory>
     requires plain { IsPlain (tree matrix) }
     requires small { count (tree matrix) < 2 ^ 50 }
     ensures exact { IfOk result (λ f. tree f ≡ spec.root (kind_of kind) (tree matrix)) }
     ensures simplified { IfOk result (λ f. IsSimplified (tree f)) }
-    ensures ready { IfOk result (λ _. IsReady IsSimplified (spec.matrix_for (kind_of kind) (tree matrix))) }
+    ensures ready { IfOk result (λ _. IsReady IsSimplified
+        (spec.matrix_for (kind_of kind) (tree matrix))) }
     ensures small { IfOk result (λ f. count (tree f) < 2 ^ 50) }
 {
     match kind {
@@ -56,7 +58,8 @@ pub fn eliminate_block(
     requires plain { IsPlain (tree matrix) }
     requires small { count (tree matrix) < 2 ^ 50 }
     ensures answer { IsBlock limit number block.now (tree matrix) result }
-    ensures ready { IfOk result (λ _. IsReady IsSimplified (spec.matrix_for block.now.kind (tree matrix))) }
+    ensures ready { IfOk result (λ _. IsReady IsSimplified
+        (spec.matrix_for block.now.kind (tree matrix))) }
 {
     let root = root_of(alloc, block.kind, matrix)?;
     match search(alloc, block.vars.items(), root, limit) {

@@ -15,8 +15,8 @@ use Rattle.qe_node.specs.Node.{Sight}
 abbrev pub existential : Sight → Formula
 existential n = under_ex n.vars n.form
 
--- At every point of numbers the node's formula is true under `ex` of its variables exactly where the formula of
--- some successor is true under `ex` of the variables of that successor.
+-- At every point of numbers the node's formula is true under `ex` of its variables exactly where
+-- the formula of some successor is true under `ex` of the variables of that successor.
 abbrev pub TruthIsKept : Sight → List (Next Sight) → Type 0
 TruthIsKept n list =
     (p : Point) → IsPoint p
