@@ -1,5 +1,5 @@
 -- From one block to all: where a block stops, so does the whole; and what is given means the same as the prenex form.
-use Rattle.std.proofs.Common.{ℕ, zero, suc, ◌≡◌, ◌≢◌, ◌∙◌, sym, ap, refl, subst, ◌+◌, ◌^◌, ◌<◌, get_or, inl, inr, false, nat_eq, List, [], ◌∷◌, ◌++◌, map, drop, length, Result, Ok, Err, arith}
+use Rattle.std.proofs.Common.{ℕ, zero, suc, ◌≡◌, ◌≢◌, ◌∙◌, sym, ap, subst, ◌+◌, ◌^◌, ◌<◌, get_or, inl, inr, false, nat_eq, List, [], ◌∷◌, ◌++◌, drop, length, Result, Ok, Err, arith}
 use Rattle.std.specs.Prelude.{AllPairs}
 use Rattle.std.proofs.Math.Seq.{drop-cons, drop-length}
 use Rattle.std.specs.List.{IsDistinct, AllByRecursion}
@@ -12,7 +12,7 @@ use Rattle.qe_form.specs.declared.form.Form.{Form}
 use Rattle.qe_form.specs.Plain.{IsPlain}
 use Rattle.qe_form.specs.Blocks.{Block, under_each, under_blocks, bound_by}
 use Rattle.qe_tree.specs.Tree.{Step}
-use Rattle.qe_tree.specs.Sound.{IsFine, IsReady}
+use Rattle.qe_tree.specs.Sound.{IsReady}
 use Rattle.qe_tree.specs.Block.{matrix_for, given, stopped, block_over, eliminated_from, eliminated, EachBlock, AtBlock, Fits, IsWithin, IsBeyond, IfGiven}
 use Rattle.qe_tree.proofs.Stands.{Stands, stands_itself}
 use Rattle.qe_tree.proofs.Growth.{fine_plain}

@@ -10,7 +10,7 @@ use Rattle.qe_simp.specs.Simplified.{simplified}
 use Rattle.qe_simp.specs.Meaning.{Keeps}
 use Rattle.qe_simp.specs.Shape.{IsSimplified}
 use Rattle.qe_tree.specs.Sound.{IsReady}
-use Rattle.qe_form.specs.Blocks.{Kind}
+use Rattle.qe_form.specs.Blocks.{QuantifierKind}
 use Rattle.qe_tree.specs.Block.{matrix_for, root}
 use Rattle.qe_tree.proofs.Stands.{negated_plain}
 use Rattle.qe_tree.proofs.Small.{root_small}
@@ -28,7 +28,7 @@ ready f g same plain (Ok h) exact keeps is = subst (IsReady IsSimplified) same (
 })
 ready f g same plain (Err e) exact keeps is = tt
 
-pub small : {E : Type 0} (kind : Kind) (m : Formula) → count m < 2 ^ 50 → (r : Result Form E) → IfOk r (λ h. tree h ≡ root kind m) → IfOk r (λ _. IsReady IsSimplified (matrix_for kind m)) → IfOk r (λ h. count (tree h) < 2 ^ 50)
+pub small : {E : Type 0} (kind : QuantifierKind) (m : Formula) → count m < 2 ^ 50 → (r : Result Form E) → IfOk r (λ h. tree h ≡ root kind m) → IfOk r (λ _. IsReady IsSimplified (matrix_for kind m)) → IfOk r (λ h. count (tree h) < 2 ^ 50)
 small kind m few (Ok h) exact is = subst (λ g. count g < 2 ^ 50) (sym exact) (root_small IsSimplified kind m is few)
 small kind m few (Err e) exact is = tt
 

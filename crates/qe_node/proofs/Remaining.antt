@@ -1,5 +1,5 @@
 -- The variables of a list that pass a test, found one after another.
-use Rattle.std.proofs.Common.{◌≢◌, ◌^◌, filter, subst, ℕ, ◌+◌, ◌<◌, ◌≤◌, ◌≡◌, ◌↔◌, ◌∙◌, sym, ap, refl, Bool, true, false, cond, List, [], ◌∷◌, ◌++◌, map, length, get_or, drop, drop-cons, append_assoc, append-nil, arith}
+use Rattle.std.proofs.Common.{◌≢◌, ◌^◌, filter, subst, ℕ, ◌+◌, ◌<◌, ◌≤◌, ◌≡◌, ◌∙◌, sym, ap, refl, Bool, true, false, cond, List, [], ◌∷◌, ◌++◌, map, length, get_or, drop, drop-cons, append_assoc, append-nil, arith}
 use Rattle.std.specs.Prelude.{IsTrue, AllPairs, eqb, not, ◌&&◌}
 use lib.Pointwise.{pointwise}
 use Rattle.std.proofs.lemmas.List.Kept.{AllPairs-filter}
@@ -20,16 +20,6 @@ use Rattle.qe_node.specs.lemmas.Piece.{filtered_short}
 -- the numbers of variables
 abbrev pub numbers : List Var → List ℕ
 numbers vs = map (λ v. v.0) vs
-
-same_test : (b c : Bool) {P : Type 0} → IsTrue b ↔ P → IsTrue c ↔ P → b ≡ c
-same_test true true h k = refl
-same_test true false h k = sym (k.1 (h.0 refl))
-same_test false true h k = h.1 (k.0 refl)
-same_test false false h k = refl
-
--- the code's answer whether a variable occurs is that of the test
-pub occurs_is : (b : Bool) (x : ℕ) (f : Formula) → IsTrue b ↔ Has x f → b ≡ occurs x f
-occurs_is b x f h = same_test b (occurs x f) h (occurs_is_has x f)
 
 numbers-push : (vs : List Var) (v : Var) → numbers (vs ++ v ∷ []) ≡ numbers vs ++ v.0 ∷ []
 numbers-push [] v = refl

@@ -5,12 +5,12 @@ use Rattle.qe_form.specs.Tree.{tree}
 use Rattle.qe_norm.specs.declared.blocks.Prenex.{Prenex}
 use Rattle.qe_norm.specs.declared.polarity.Polarity.TheVariants.{Positive}
 use Rattle.qe_norm.specs.Blocks.{grouped}
-use Rattle.qe_norm.specs.Walk.{size_of, State, begun, opened}
+use Rattle.qe_norm.specs.Walk.{size_of, WalkState, begun, opened}
 use Rattle.qe_norm.specs.Prenex.{IsPrenexOf, prenex_size}
 use Rattle.qe_norm.proofs.Mirrors.{finds, count_normal}
 
 -- from the start s of the walk to its end t
-pub assembled : (f : Formula) (names : List (List ℕ)) (p : Prenex) (s t : State) → s ≡ begun names → t ≡ (opened Positive f s).1
+pub assembled : (f : Formula) (names : List (List ℕ)) (p : Prenex) (s t : WalkState) → s ≡ begun names → t ≡ (opened Positive f s).1
     → p.blocks.items ≡ grouped t.prefix → tree p.matrix ≡ (opened Positive f s).0 → p.names ≡ t.walked.names → IsPrenexOf f names p
 assembled f names p s t start walked blocks matrix named =
     let found = finds Positive f (begun names) in

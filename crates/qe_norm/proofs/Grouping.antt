@@ -1,26 +1,26 @@
 -- Blocks: they stand for their quantifiers one after another, and there are no more of them, nor longer ones, than quantifiers.
-use Rattle.std.proofs.Common.{ℕ, ◌+◌, ◌≤◌, Bool, true, false, cond, ◌≡◌, ◌∙◌, refl, sym, ap, List, [], ◌∷◌, ◌++◌, map, length, length-append, arith}
+use Rattle.std.proofs.Common.{ℕ, ◌+◌, ◌≤◌, Bool, true, false, cond, ◌≡◌, ◌∙◌, refl, sym, ap, List, [], ◌∷◌, ◌++◌, length, length-append, arith}
 use Rattle.std.proofs.lemmas.List.{append_assoc, append-nil, map-append}
 use Rattle.std.specs.List.{AllByRecursion}
 use Rattle.std.specs.List as list
 use Rattle.std.proofs.lemmas.List.Elements.{All-from_recursion}
 use Rattle.qe_form.specs.Formula.{Formula}
-use Rattle.qe_form.specs.Blocks.{Kind, exists, for_all, Block, under_one, under_each, under_blocks, bound_by}
+use Rattle.qe_form.specs.Blocks.{QuantifierKind, exists, for_all, Block, under_one, under_each, under_blocks, bound_by}
 use Rattle.qe_poly.specs.declared.monomial.Var.{Var}
 use Rattle.qe_norm.specs.declared.blocks.Kind as code
 use Rattle.qe_norm.specs.declared.walk.Quantifier.{Quantifier}
 use Rattle.qe_norm.specs.Blocks.{kind_of, block_of, is_same_kind, alone, with_variable, with_quantifier, grouped_after, grouped}
-use Rattle.qe_norm.proofs.Outwards.{under}
+use Rattle.qe_norm.proofs.Outwards.{under, vars_of}
 
 -- ---- what they stand for
 
-same_kind_is : (j k : Kind) → is_same_kind j k ≡ true → j ≡ k
+same_kind_is : (j k : QuantifierKind) → is_same_kind j k ≡ true → j ≡ k
 same_kind_is exists exists e = refl
 same_kind_is exists for_all e = absurd (cc)
 same_kind_is for_all exists e = absurd (cc)
 same_kind_is for_all for_all e = refl
 
-each_push : (k : Kind) (xs : List ℕ) (x : ℕ) (f : Formula) → under_each k (xs ++ x ∷ []) f ≡ under_each k xs (under_one k x f)
+each_push : (k : QuantifierKind) (xs : List ℕ) (x : ℕ) (f : Formula) → under_each k (xs ++ x ∷ []) f ≡ under_each k xs (under_one k x f)
 each_push k [] x f = refl
 each_push k (y ∷ xs) x f = ap (under_one k y) (each_push k xs x f)
 
@@ -43,9 +43,6 @@ pub under_grouped : (qs : List Quantifier) (f : Formula) → under_blocks (group
 under_grouped qs f = under_after [] qs f
 
 -- ---- their variables
-
-abbrev pub vars_of : List Quantifier → List ℕ
-vars_of qs = map (λ q. q.var.0) qs
 
 bound_by_with : (bs : List Block) (q : Quantifier) → bound_by (with_quantifier bs q) ≡ bound_by bs ++ q.var.0 ∷ []
 bound_by_with [] q = refl

@@ -1,3 +1,4 @@
+pub mod Numbers
 pub mod Opened
 pub mod Binders
 pub mod Steps

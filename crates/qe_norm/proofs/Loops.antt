@@ -5,10 +5,10 @@ use Rattle.qe_form.specs.Formula.{Formulas, more}
 use Rattle.qe_form.specs.Tree.{tree, trees}
 use Rattle.qe_form.proofs.Trees.{left_at}
 use Rattle.qe_norm.specs.declared.polarity.Polarity.{Polarity}
-use Rattle.qe_norm.specs.Walk.{State, opened, opened_each}
+use Rattle.qe_norm.specs.Walk.{WalkState, opened, opened_each}
 
 module _ (items : List Form) (i : ℕ) (f : Form) (less : i < length items) (is : f ≡ get_or items i f)
-    (b : Polarity) (s t : State) (made : t ≡ (opened b (tree f) s).1) where
+    (b : Polarity) (s t : WalkState) (made : t ≡ (opened b (tree f) s).1) where
   -- the parts that are left after the turn
   abbrev after : Formulas
   after = trees (drop (i + 1) items)

@@ -13,7 +13,7 @@ use Rattle.qe_form.specs.Preserved.{IsDecided}
 use Rattle.qe_form.proofs.TwoSides.{never_both}
 use Rattle.qe_norm.specs.declared.polarity.Polarity.{Polarity}
 use Rattle.qe_norm.specs.declared.polarity.Polarity.TheVariants.{Positive, Negative}
-use Rattle.qe_norm.specs.Polarity.{opposite, truth, conjunction, existential, signs_at}
+use Rattle.qe_norm.specs.Polarity.{flipped, truth_under, conjunction, existential, signs_under}
 use Rattle.qe_norm.specs.NormalForm.{normal_form, normal_forms}
 
 -- the truth of a formula whose normal form at the polarity has this truth
@@ -23,13 +23,13 @@ agreeing Negative c = not c
 
 -- ---- one formula at a time
 
-constant_is : (b : Polarity) (c : Bool) (p : Point) → Is (truth b) c p ↔ (agreeing b c ≡ true)
+constant_is : (b : Polarity) (c : Bool) (p : Point) → Is (truth_under b) c p ↔ (agreeing b c ≡ true)
 constant_is Positive true p = ((λ e. e), (λ e. e))
 constant_is Positive false p = ((λ e. e), (λ e. e))
 constant_is Negative true p = ((λ e. sym e), (λ e. sym e))
 constant_is Negative false p = ((λ e. refl), (λ e. refl))
 
-constant_is_not : (b : Polarity) (c : Bool) (p : Point) → Is (truth (opposite b)) c p ↔ (agreeing b c ≡ false)
+constant_is_not : (b : Polarity) (c : Bool) (p : Point) → Is (truth_under (flipped b)) c p ↔ (agreeing b c ≡ false)
 constant_is_not Positive c p = ((λ e. e), (λ e. e))
 constant_is_not Negative true p = ((λ e. refl), (λ e. refl))
 constant_is_not Negative false p = ((λ e. sym e), (λ e. sym e))
@@ -45,7 +45,7 @@ not_moved true false = ((λ e. refl), (λ e. refl))
 not_moved false true = ((λ e. refl), (λ e. refl))
 not_moved false false = ((λ e. sym e), (λ e. sym e))
 
-signs_are : (b : Polarity) (c : Bool) (s : Signs) (t : Sign) → (has_sign (signs_at b s) t ≡ c) ↔ (has_sign s t ≡ agreeing b c)
+signs_are : (b : Polarity) (c : Bool) (s : Signs) (t : Sign) → (has_sign (signs_under b s) t ≡ c) ↔ (has_sign s t ≡ agreeing b c)
 signs_are Positive c s t = ((λ e. e), (λ e. e))
 signs_are Negative c s t = (λ e. (not_moved (has_sign s t) c).0 (sym (complement_has s t) ∙ e), λ e. complement_has s t ∙ (not_moved (has_sign s t) c).1 e)
 
@@ -161,26 +161,26 @@ pub free_quantified : (b : Polarity) (y : ℕ) (f : Formula) (x : ℕ) → IsFre
 free_quantified Positive y f x o = o
 free_quantified Negative y f x o = o
 
-free_constant : (b : Polarity) (x : ℕ) → IsFree x (truth b) → ⊥
+free_constant : (b : Polarity) (x : ℕ) → IsFree x (truth_under b) → ⊥
 free_constant Positive x o = o
 free_constant Negative x o = o
 
 mutual
   pub free_normal : (b : Polarity) (f : Formula) (x : ℕ) → IsFree x (normal_form b f) → IsFree x f
   free_normal b True x o = free_constant b x o
-  free_normal b False x o = free_constant (opposite b) x o
+  free_normal b False x o = free_constant (flipped b) x o
   free_normal b (Atom a) x o = o
   free_normal b (And fs) x o = free_normals b fs x (free_connected b (normal_forms b fs) x o)
-  free_normal b (Or fs) x o = free_normals b fs x (free_connected (opposite b) (normal_forms b fs) x o)
-  free_normal b (Not f) x o = free_normal (opposite b) f x o
-  free_normal b (Implies f g) x o = either_free (free_normal (opposite b) f x) (free_normal b g x) (free_connected (opposite b) _ x o)
+  free_normal b (Or fs) x o = free_normals b fs x (free_connected (flipped b) (normal_forms b fs) x o)
+  free_normal b (Not f) x o = free_normal (flipped b) f x o
+  free_normal b (Implies f g) x o = either_free (free_normal (flipped b) f x) (free_normal b g x) (free_connected (flipped b) _ x o)
   free_normal b (Iff f g) x o =
       elim o [
         | inl s ↦ either_free (free_normal Positive f x) (free_normal b g x) s
-        | inr t ↦ elim t [ inl s ↦ either_free (free_normal Negative f x) (free_normal (opposite b) g x) s | inr n ↦ absurd n ]
+        | inr t ↦ elim t [ inl s ↦ either_free (free_normal Negative f x) (free_normal (flipped b) g x) s | inr n ↦ absurd n ]
       ]
   free_normal b (Ex y f) x o = let h = free_quantified b y (normal_form b f) x o in (h.0, free_normal b f x h.1)
-  free_normal b (All y f) x o = let h = free_quantified (opposite b) y (normal_form b f) x o in (h.0, free_normal b f x h.1)
+  free_normal b (All y f) x o = let h = free_quantified (flipped b) y (normal_form b f) x o in (h.0, free_normal b f x h.1)
 
   free_normals : (b : Polarity) (fs : Formulas) (x : ℕ) → IsFreeInSome x (normal_forms b fs) → IsFreeInSome x fs
   free_normals b no_more x o = o
@@ -205,12 +205,12 @@ mutual
   normal_free b False x o = absurd o
   normal_free b (Atom a) x o = o
   normal_free b (And fs) x o = connected_free b (normal_forms b fs) x (normals_free b fs x o)
-  normal_free b (Or fs) x o = connected_free (opposite b) (normal_forms b fs) x (normals_free b fs x o)
-  normal_free b (Not f) x o = normal_free (opposite b) f x o
-  normal_free b (Implies f g) x o = connected_free (opposite b) _ x (either_free_back (normal_free (opposite b) f x) (normal_free b g x) o)
+  normal_free b (Or fs) x o = connected_free (flipped b) (normal_forms b fs) x (normals_free b fs x o)
+  normal_free b (Not f) x o = normal_free (flipped b) f x o
+  normal_free b (Implies f g) x o = connected_free (flipped b) _ x (either_free_back (normal_free (flipped b) f x) (normal_free b g x) o)
   normal_free b (Iff f g) x o = inl (either_free_back (normal_free Positive f x) (normal_free b g x) o)
   normal_free b (Ex y f) x o = quantified_free b y (normal_form b f) x (o.0, normal_free b f x o.1)
-  normal_free b (All y f) x o = quantified_free (opposite b) y (normal_form b f) x (o.0, normal_free b f x o.1)
+  normal_free b (All y f) x o = quantified_free (flipped b) y (normal_form b f) x (o.0, normal_free b f x o.1)
 
   normals_free : (b : Polarity) (fs : Formulas) (x : ℕ) → IsFreeInSome x fs → IsFreeInSome x (normal_forms b fs)
   normals_free b no_more x o = o

@@ -1,29 +1,33 @@
 -- Quantifiers move outwards: a formula whose quantifiers have variables of their own is true at a point only if its matrix under
 -- its quantifiers is, and false only if that is.
-use Rattle.std.proofs.Common.{ℕ, Bool, true, false, not, ◌≡◌, ◌⊎◌, inl, inr, refl, sym, ap, subst, eqb, pos, List, [], ◌∷◌, ◌++◌, Some, if◌then◌else◌, arith}
+use Rattle.std.proofs.Common.{ℕ, Bool, true, false, not, ◌≡◌, ◌∙◌, ◌⊎◌, inl, inr, refl, sym, ap, subst, pos, List, [], ◌∷◌, ◌++◌, map, Some, if◌then◌else◌}
 use Rattle.std.proofs.lemmas.Bool.{cases_eq}
-use Rattle.std.proofs.lemmas.Bool.Decides.{nat_tests}
+use Rattle.std.proofs.lemmas.List.{map-append}
 use Rattle.qe_tower.specs.Number.{Number, IsNumber, whole_number}
 use Rattle.qe_tower.specs.Point.{Point, look_up, or_zero}
 use Rattle.qe_form.specs.Formula.{Formula, Formulas, no_more, more}
 use Rattle.qe_form.specs.Formula as formula
 use Rattle.qe_form.specs.Truth.{Is}
 use Rattle.qe_form.specs.Same.{IsFree, IsFreeInSome}
+use Rattle.qe_form.specs.Numbered.{binders, binders_each}
 use Rattle.qe_form.proofs.FreeReads.{truth_reads}
-use Rattle.qe_form.specs.Blocks.{Kind, exists, for_all, under_one}
+use Rattle.qe_form.specs.Blocks.{QuantifierKind, exists, for_all, under_one}
 use Rattle.qe_norm.specs.declared.walk.Quantifier.{Quantifier}
 use Rattle.qe_norm.specs.Blocks.{kind_of, prefix, prefix_each, matrix, matrix_each}
-use Rattle.qe_norm.proofs.Binders.{Binds, BindsIn, IsReady, AreReady}
+use Rattle.qe_norm.proofs.Numbers.{eqb_apart}
+use Rattle.qe_norm.proofs.Binders.{IsIn, in_left, in_right, Binds, BindsIn, IsReady, AreReady}
 
 -- the formula under quantifiers, the first outermost
 abbrev pub under : List Quantifier → Formula → Formula
 under [] f = f
 under (q ∷ qs) f = under_one (kind_of q.kind) q.var.0 (under qs f)
 
+abbrev pub vars_of : List Quantifier → List ℕ
+vars_of qs = map (λ q. q.var.0) qs
+
 -- the variable is that of one of the quantifiers
 abbrev pub IsVariable : ℕ → List Quantifier → Type 0
-IsVariable x [] = ⊥
-IsVariable x (q ∷ qs) = (x ≡ q.var.0) ⊎ IsVariable x qs
+IsVariable x qs = IsIn x (vars_of qs)
 
 -- ---- the formula, part by part
 
@@ -81,17 +85,17 @@ ranging_moved true P Q move t = (t.0, t.1, move t.0 t.1 t.2)
 ranging_moved false P Q move t = λ v k. move v k (t v k)
 
 -- whether a quantifier at a truth speaks of some number
-abbrev range : Kind → Bool → Bool
+abbrev range : QuantifierKind → Bool → Bool
 range exists b = b
 range for_all b = not b
 
-ranges : (k : Kind) (x : ℕ) (f : Formula) (b : Bool) (p : Point) → Is (under_one k x f) b p → Ranging (range k b) (λ v. Is f b ((x, v) ∷ p))
+ranges : (k : QuantifierKind) (x : ℕ) (f : Formula) (b : Bool) (p : Point) → Is (under_one k x f) b p → Ranging (range k b) (λ v. Is f b ((x, v) ∷ p))
 ranges exists x f true p t = t
 ranges exists x f false p t = t
 ranges for_all x f true p t = t
 ranges for_all x f false p t = t
 
-ranges_back : (k : Kind) (x : ℕ) (f : Formula) (b : Bool) (p : Point) → Ranging (range k b) (λ v. Is f b ((x, v) ∷ p)) → Is (under_one k x f) b p
+ranges_back : (k : QuantifierKind) (x : ℕ) (f : Formula) (b : Bool) (p : Point) → Ranging (range k b) (λ v. Is f b ((x, v) ∷ p)) → Is (under_one k x f) b p
 ranges_back exists x f true p t = t
 ranges_back exists x f false p t = t
 ranges_back for_all x f true p t = t
@@ -99,16 +103,13 @@ ranges_back for_all x f false p t = t
 
 -- ---- truth where a variable is not free
 
-eqb_apart : (i j : ℕ) → (j ≡ i → ⊥) → eqb i j ≡ false
-eqb_apart i j apart = grind (arith, nat_tests)
-
 pub not_free_reads : (f : Formula) (b : Bool) (x : ℕ) (v : Number) (p : Point) → (IsFree x f → ⊥) → Is f b p → Is f b ((x, v) ∷ p)
 not_free_reads f b x v p none t =
-    truth_reads f b p ((x, v) ∷ p) (λ z o. ap (λ c. or_zero (if c then Some v else look_up p z)) (sym (eqb_apart x z (λ e. none (subst (λ i. IsFree i f) e o))))) t
+    truth_reads f b p ((x, v) ∷ p) (λ z o. ap (λ c. or_zero (if c then Some v else look_up p z)) (sym (eqb_apart x z (λ e. none (subst (λ i. IsFree i f) (sym e) o))))) t
 
 -- ---- quantifiers of two parts
 
-free_quantified : (k : Kind) (x : ℕ) (f : Formula) (z : ℕ) → IsFree z (under_one k x f) → (z ≡ x → ⊥) × IsFree z f
+free_quantified : (k : QuantifierKind) (x : ℕ) (f : Formula) (z : ℕ) → IsFree z (under_one k x f) → (z ≡ x → ⊥) × IsFree z f
 free_quantified exists x f z o = o
 free_quantified for_all x f z o = o
 
@@ -152,56 +153,29 @@ module _ (j b : Bool) (joined : Formula) (left right : Formula) (made : (p : Poi
 
 -- ---- the variables of prefix and matrix
 
-variable_append : (z : ℕ) (ps qs : List Quantifier) → IsVariable z (ps ++ qs) → IsVariable z ps ⊎ IsVariable z qs
-variable_append z [] qs h = inr h
-variable_append z (q ∷ ps) qs h = elim h [ inl e ↦ inl (inl e) | inr k ↦ elim (variable_append z ps qs k) [ inl l ↦ inl (inr l) | inr l ↦ inr l ] ]
-
-variable_left : (z : ℕ) (ps qs : List Quantifier) → IsVariable z ps → IsVariable z (ps ++ qs)
-variable_left z [] qs h = absurd h
-variable_left z (q ∷ ps) qs h = elim h [ inl e ↦ inl e | inr k ↦ inr (variable_left z ps qs k) ]
-
-variable_right : (z : ℕ) (ps qs : List Quantifier) → IsVariable z qs → IsVariable z (ps ++ qs)
-variable_right z [] qs h = h
-variable_right z (q ∷ ps) qs h = inr (variable_right z ps qs h)
-
 mutual
-  pub prefix_binds : (f : Formula) (z : ℕ) → IsReady f → IsVariable z (prefix f) → Binds z f
-  prefix_binds formula.True z r h = h
-  prefix_binds formula.False z r h = h
-  prefix_binds (formula.Atom a) z r h = h
-  prefix_binds (formula.And fs) z r h = prefixes_bind fs z r h
-  prefix_binds (formula.Or fs) z r h = prefixes_bind fs z r h
-  prefix_binds (formula.Not f) z r h = absurd r
-  prefix_binds (formula.Implies f g) z r h = absurd r
-  prefix_binds (formula.Iff f g) z r h = absurd r
-  prefix_binds (formula.Ex x f) z r h = elim h [ inl e ↦ inl e | inr k ↦ inr (prefix_binds f z r.1 k) ]
-  prefix_binds (formula.All x f) z r h = elim h [ inl e ↦ inl e | inr k ↦ inr (prefix_binds f z r.1 k) ]
+  -- the quantifiers of a normal form are those that bind
+  pub vars_of_prefix : (f : Formula) → IsReady f → vars_of (prefix f) ≡ binders f
+  vars_of_prefix formula.True r = refl
+  vars_of_prefix formula.False r = refl
+  vars_of_prefix (formula.Atom a) r = refl
+  vars_of_prefix (formula.And fs) r = vars_of_prefixes fs r
+  vars_of_prefix (formula.Or fs) r = vars_of_prefixes fs r
+  vars_of_prefix (formula.Not f) r = absurd r
+  vars_of_prefix (formula.Implies f g) r = absurd r
+  vars_of_prefix (formula.Iff f g) r = absurd r
+  vars_of_prefix (formula.Ex x f) r = ap (λ xs. x ∷ xs) (vars_of_prefix f r.1)
+  vars_of_prefix (formula.All x f) r = ap (λ xs. x ∷ xs) (vars_of_prefix f r.1)
 
-  pub prefixes_bind : (fs : Formulas) (z : ℕ) → AreReady fs → IsVariable z (prefix_each fs) → BindsIn z fs
-  prefixes_bind no_more z r h = h
-  prefixes_bind (more f fs) z r h =
-      elim (variable_append z (prefix f) (prefix_each fs) h) [ inl k ↦ inl (prefix_binds f z r.0 k) | inr k ↦ inr (prefixes_bind fs z r.1 k) ]
+  vars_of_prefixes : (fs : Formulas) → AreReady fs → vars_of (prefix_each fs) ≡ binders_each fs
+  vars_of_prefixes no_more r = refl
+  vars_of_prefixes (more f fs) r = map-append (λ q. q.var.0) (prefix f) (prefix_each fs) ∙ (λ i. vars_of_prefix f r.0 i ++ vars_of_prefixes fs r.1 i)
 
-mutual
-  pub binds_prefix : (f : Formula) (z : ℕ) → IsReady f → Binds z f → IsVariable z (prefix f)
-  binds_prefix formula.True z r h = h
-  binds_prefix formula.False z r h = h
-  binds_prefix (formula.Atom a) z r h = h
-  binds_prefix (formula.And fs) z r h = bind_prefixes fs z r h
-  binds_prefix (formula.Or fs) z r h = bind_prefixes fs z r h
-  binds_prefix (formula.Not f) z r h = absurd r
-  binds_prefix (formula.Implies f g) z r h = absurd r
-  binds_prefix (formula.Iff f g) z r h = absurd r
-  binds_prefix (formula.Ex x f) z r h = elim h [ inl e ↦ inl e | inr k ↦ inr (binds_prefix f z r.1 k) ]
-  binds_prefix (formula.All x f) z r h = elim h [ inl e ↦ inl e | inr k ↦ inr (binds_prefix f z r.1 k) ]
+pub prefix_binds : (f : Formula) (z : ℕ) → IsReady f → IsVariable z (prefix f) → Binds z f
+prefix_binds f z r h = subst (IsIn z) (vars_of_prefix f r) h
 
-  bind_prefixes : (fs : Formulas) (z : ℕ) → AreReady fs → BindsIn z fs → IsVariable z (prefix_each fs)
-  bind_prefixes no_more z r h = h
-  bind_prefixes (more f fs) z r h =
-      elim h [
-        | inl k ↦ variable_left z (prefix f) (prefix_each fs) (binds_prefix f z r.0 k)
-        | inr k ↦ variable_right z (prefix f) (prefix_each fs) (bind_prefixes fs z r.1 k)
-      ]
+prefixes_bind : (fs : Formulas) (z : ℕ) → AreReady fs → IsVariable z (prefix_each fs) → BindsIn z fs
+prefixes_bind fs z r h = subst (IsIn z) (vars_of_prefixes fs r) h
 
 pub below_one : (x : ℕ) (f : Formula) (z : ℕ) → IsFree z f ⊎ Binds z f → ((z ≡ x → ⊥) × IsFree z f) ⊎ ((z ≡ x) ⊎ Binds z f)
 below_one x f z h = elim h [ inl o ↦ (elim (cases_eq z x) [ inl e ↦ inr (inl e) | inr n ↦ inl (n, o) ]) | inr k ↦ inr (inr k) ]
@@ -223,20 +197,20 @@ mutual
   free_matrices no_more z r h = inl h
   free_matrices (more f fs) z r h =
       elim h [
-        | inl k ↦ elim (free_matrix f z r.0 k) [ inl l ↦ inl (inl l) | inr l ↦ inr (inl l) ]
-        | inr k ↦ elim (free_matrices fs z r.1 k) [ inl l ↦ inl (inr l) | inr l ↦ inr (inr l) ]
+        | inl k ↦ elim (free_matrix f z r.0 k) [ inl l ↦ inl (inl l) | inr l ↦ inr (in_left z (binders f) (binders_each fs) l) ]
+        | inr k ↦ elim (free_matrices fs z r.1 k) [ inl l ↦ inl (inr l) | inr l ↦ inr (in_right z (binders f) (binders_each fs) l) ]
       ]
 
 -- the free variables of the prenex form are free in the formula
 pub free_prenex : (f : Formula) (z : ℕ) → IsReady f → IsFree z (under (prefix f) (matrix f)) → IsFree z f
 free_prenex f z r o =
     let h = free_under (prefix f) (matrix f) z o in
-    elim (free_matrix f z r h.1) [ inl k ↦ k | inr k ↦ absurd (h.0 (binds_prefix f z r k)) ]
+    elim (free_matrix f z r h.1) [ inl k ↦ k | inr k ↦ absurd (h.0 (subst (IsIn z) (sym (vars_of_prefix f r)) k)) ]
 
 pub free_prenexes : (fs : Formulas) (z : ℕ) → AreReady fs → (m : Formula) → (IsFree z m → IsFreeInSome z (matrix_each fs)) → IsFree z (under (prefix_each fs) m) → IsFreeInSome z fs
 free_prenexes fs z r m is o =
     let h = free_under (prefix_each fs) m z o in
-    elim (free_matrices fs z r (is h.1)) [ inl k ↦ k | inr k ↦ absurd (h.0 (bind_prefixes fs z r k)) ]
+    elim (free_matrices fs z r (is h.1)) [ inl k ↦ k | inr k ↦ absurd (h.0 (subst (IsIn z) (sym (vars_of_prefixes fs r)) k)) ]
 
 -- ---- the whole formula
 

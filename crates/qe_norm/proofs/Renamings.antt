@@ -1,7 +1,6 @@
 -- Renamings in force: where a variable ends, the point that the formula before them sees, and what atoms keep.
 use Rattle.std.proofs.Common.{ℕ, suc, ◌<◌, ◌≤◌, Bool, true, false, cond, eqb, ◌≡◌, ◌≢◌, ◌∙◌, ◌⊎◌, inl, inr, refl, sym, ap, List, [], ◌∷◌, ◌++◌, Some, if◌then◌else◌, arith}
 use Rattle.std.proofs.lemmas.Bool.{eqb-true}
-use Rattle.std.proofs.lemmas.Bool.Decides.{nat_tests}
 use Rattle.qe_tower.specs.Number.{Number, sign_of}
 use Rattle.qe_tower.specs.Point.{Point, IsPoint, look_up, or_zero, number_at}
 use Rattle.qe_poly.specs.Polynomial.{Polynomial}
@@ -13,15 +12,7 @@ use Rattle.qe_poly.proofs.Occurring.{occurs_nowhere}
 use Rattle.qe_form.proofs.Renamed.{occurs_renamed, same_sign}
 use Rattle.qe_norm.specs.declared.walk.Renaming.{Renaming}
 use Rattle.qe_norm.specs.Numbering.{renamed_by}
-
-eqb_itself : (i j : ℕ) → i ≡ j → eqb i j ≡ true
-eqb_itself i j same = grind (arith, nat_tests)
-
-eqb_apart : (i j : ℕ) → i ≢ j → eqb i j ≡ false
-eqb_apart i j apart = grind (arith, nat_tests)
-
-apart_from : (i j : ℕ) → eqb i j ≡ false → i ≢ j
-apart_from i j test same = grind (arith, nat_tests)
+use Rattle.qe_norm.proofs.Numbers.{eqb_itself, eqb_apart}
 
 -- ---- where a variable ends
 
@@ -103,7 +94,7 @@ occurs_from q n rs m rising small z o = from q rs (fresh q n rs m rising small) 
     from q (r ∷ rs) new z o =
         let h = from (renamed r.from r.to q) rs new.1 z o in
         elim (occurs_renamed r.from r.to h.0 q (occurs_nowhere r.to.0 q new.0) h.1) [
-          | inl k ↦ (r.from.0, k.1, h.2 ∙ (ap (image rs) k.0 ∙ ap (λ b. image rs (cond b r.to.0 r.from.0)) (sym (eqb_itself r.from.0 r.from.0 refl))))
+          | inl k ↦ (r.from.0, k.1, h.2 ∙ (ap (image rs) k.0 ∙ ap (λ b. image rs (cond b r.to.0 r.from.0)) (sym (eqb_itself r.from.0))))
           | inr k ↦ (h.0, k.1, h.2 ∙ ap (λ b. image rs (cond b r.to.0 h.0)) (sym (eqb_apart r.from.0 h.0 (λ e. k.0 (sym e)))))
         ]
 

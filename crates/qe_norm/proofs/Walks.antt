@@ -2,7 +2,6 @@
 -- renamed to one that is free nowhere.
 use Rattle.std.proofs.Common.{ℕ, ◌+◌, ◌<◌, Bool, true, false, cond, eqb, ◌≡◌, ◌≢◌, ◌∙◌, ◌⊎◌, inl, inr, refl, sym, ap, subst, List, [], ◌∷◌, ◌++◌, length, length-append, Some, if◌then◌else◌, arith}
 use Rattle.std.proofs.lemmas.Bool.{cases_eq}
-use Rattle.std.proofs.lemmas.Bool.Decides.{nat_tests}
 use Rattle.std.specs.Prelude.{unwrap_or, slice_get}
 use Rattle.qe_tower.specs.Number.{Number, IsNumber}
 use Rattle.qe_tower.specs.Point.{Point, IsPoint, look_up, or_zero, number_at}
@@ -10,20 +9,16 @@ use Rattle.qe_form.specs.declared.form.Atom as atom
 use Rattle.qe_form.specs.Formula.{Formula, Formulas, True, False, Atom, And, Or, Not, Implies, Iff, Ex, All, no_more, more}
 use Rattle.qe_form.specs.Truth.{has_sign, Is, EachIs, SomeIs}
 use Rattle.qe_form.specs.Same.{IsFree, IsFreeInSome}
+use Rattle.qe_form.specs.Numbered.{binders, binders_each}
 use Rattle.qe_form.specs.Measures as measures
 use Rattle.qe_form.proofs.FreeReads.{truth_reads}
 use Rattle.qe_norm.specs.declared.walk.Renaming.{Renaming}
 use Rattle.qe_norm.specs.Numbering.{Walked, is_copy, new_variable, named_again, met_first, met_after, to_copy, within, numbered, numbered_each}
-use Rattle.qe_norm.proofs.Binders.{Binds, BindsIn, IsReady, AreReady}
+use Rattle.qe_norm.proofs.Numbers.{eqb_itself, eqb_apart}
+use Rattle.qe_norm.proofs.Binders.{in_either, in_left, in_right, Binds, BindsIn, IsReady, AreReady}
 use Rattle.qe_norm.proofs.Outwards.{IsApart, AreApart}
 use Rattle.qe_norm.proofs.Steps.{IsWalked, IsTaken, Step, IsNew, step_none, step_then, after_step}
 use Rattle.qe_norm.proofs.Renamings.{image, IsSource, Rising, rising_more, rising_push, source_push, image_cases, image_stays, image_push, occurs_from, seen, seen_push, with_one, seen_other, avoids_above, avoids_below, seen_sign}
-
-eqb_itself : (i j : ℕ) → i ≡ j → eqb i j ≡ true
-eqb_itself i j same = grind (arith, nat_tests)
-
-eqb_apart : (i j : ℕ) → i ≢ j → eqb i j ≡ false
-eqb_apart i j apart = grind (arith, nat_tests)
 
 -- n variables stand in the formula that is read, of which its quantifiers bind those that are Bound
 module _ (n : ℕ) (Bound : ℕ → Type 0) (below : (z : ℕ) → Bound z → z < n) where
@@ -116,7 +111,7 @@ module _ (n : ℕ) (Bound : ℕ → Type 0) (below : (z : ℕ) → Bound z → z
     -- x ends at its new variable
     image_x : image (within w x rs) x ≡ new_variable w x
     image_x = elim (is_copy w x) as (λ b. image (cond b (rs ++ to_copy w x ∷ []) rs) x ≡ cond b (length w.names) x) [
-      | true ↦ image_push rs (to_copy w x) x ∙ ap (λ i. cond (eqb x i) (length w.names) i) (image_stays rs x not_source) ∙ ap (λ b. cond b (length w.names) x) (eqb_itself x x refl)
+      | true ↦ image_push rs (to_copy w x) x ∙ ap (λ i. cond (eqb x i) (length w.names) i) (image_stays rs x not_source) ∙ ap (λ b. cond b (length w.names) x) (eqb_itself x)
       | false ↦ image_stays rs x not_source
     ]
 
@@ -166,7 +161,7 @@ module _ (n : ℕ) (Bound : ℕ → Type 0) (below : (z : ℕ) → Bound z → z
 
       seen_copied : number_at (seen (rs ++ to_copy w x ∷ []) ((length w.names, u) ∷ p)) z ≡ wanted
       seen_copied =
-          let itself : number_at ((length w.names, u) ∷ p) (length w.names) ≡ u = ap (λ b. or_zero (if b then Some u else look_up p (length w.names))) (eqb_itself (length w.names) (length w.names) refl) in
+          let itself : number_at ((length w.names, u) ∷ p) (length w.names) ≡ u = ap (λ b. or_zero (if b then Some u else look_up p (length w.names))) (eqb_itself (length w.names)) in
           let apart : eqb (length w.names) z ≡ false = eqb_apart (length w.names) z (λ e. (let k = fits.walked.names in let d = e in omega arith)) in
           ap (λ q. number_at q z) (seen_push rs (to_copy w x) ((length w.names, u) ∷ p))
           ∙ ap (λ i. number_at (seen rs ((x, i) ∷ (length w.names, u) ∷ p)) z) itself
@@ -294,8 +289,8 @@ module _ (n : ℕ) (Bound : ℕ → Type 0) (below : (z : ℕ) → Bound z → z
       rising = fits.rising;
       sources = fits.sources;
       small = λ z o. fits.small z (inl o);
-      bound = λ z h. fits.bound z (inl h);
-      unmet = λ z h. fits.unmet z (inl h);
+      bound = λ z h. fits.bound z (in_left z (binders f) (binders_each fs) h);
+      unmet = λ z h. fits.unmet z (in_left z (binders f) (binders_each fs) h);
       taken = λ z o. fits.taken z (inl o);
       ready = fits.ready.0;
     }
@@ -308,8 +303,8 @@ module _ (n : ℕ) (Bound : ℕ → Type 0) (below : (z : ℕ) → Bound z → z
         rising = rising_more n rs (length w.names) (length v.names) first.step.longer fits.rising;
         sources = fits.sources;
         small = λ z o. fits.small z (inr o);
-        bound = λ z h. fits.bound z (inr h);
-        unmet = λ z h. fits.unmet z (inr h);
+        bound = λ z h. fits.bound z (in_right z (binders f) (binders_each fs) h);
+        unmet = λ z h. fits.unmet z (in_right z (binders f) (binders_each fs) h);
         taken = λ z o. first.step.keeps (image rs z) (fits.taken z (inr o));
         ready = fits.ready.1;
       }
@@ -328,9 +323,9 @@ module _ (n : ℕ) (Bound : ℕ → Type 0) (below : (z : ℕ) → Bound z → z
         rest_apart : (z : ℕ) → BindsIn z gs → IsFree z g → ⊥
         rest_apart z h o = (let e = first.free z o in (rest.new z h).fresh (first.step.keeps z (taken_before z e.0 e.2 (fits.taken e.0 (inl e.1)))))
 
-        more_new : (z : ℕ) → Binds z g ⊎ BindsIn z gs → IsNew n Bound below w u z
+        more_new : (z : ℕ) → BindsIn z (more g gs) → IsNew n Bound below w u z
         more_new z h =
-            elim h [
+            elim (in_either z (binders g) (binders_each gs) h) [
               | inl k ↦ (let m = first.new z k in record { taken = rest.step.keeps z m.taken; fresh = m.fresh })
               | inr k ↦ (let m = rest.new z k in record { taken = m.taken; fresh = λ t. m.fresh (first.step.keeps z t) })
             ]

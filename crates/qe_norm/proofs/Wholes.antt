@@ -9,7 +9,7 @@ use Rattle.qe_form.specs.Same.{IsFree, IsFreeInSome, Same}
 use Rattle.qe_form.specs.Measures.{count}
 use Rattle.qe_form.specs.Plain.{IsPlain}
 use Rattle.qe_form.specs.Numbered as input_names
-use Rattle.qe_form.specs.Numbered.{Occurs, OccursInOne, binders}
+use Rattle.qe_form.specs.Numbered.{Occurs, OccursInOne, binders, binders_each}
 use Rattle.qe_form.specs.Preserved.{Preserves, IsDecided, HasDecidedCore}
 use Rattle.qe_form.specs.Holds.{HoldAlike}
 use Rattle.qe_form.proofs.Sameness.{same_is_preorder, same_is_kept}
@@ -17,23 +17,23 @@ use Rattle.qe_form.proofs.Preservation.{preserves_is_same}
 use Rattle.qe_norm.specs.declared.blocks.Prenex.{Prenex}
 use Rattle.qe_norm.specs.declared.polarity.Polarity.{Polarity}
 use Rattle.qe_norm.specs.declared.polarity.Polarity.TheVariants.{Positive, Negative}
-use Rattle.qe_norm.specs.Polarity.{opposite, existential}
+use Rattle.qe_norm.specs.Polarity.{flipped, existential}
 use Rattle.qe_norm.specs.NormalForm.{normal_form}
 use Rattle.qe_norm.specs.Numbering.{Walked, is_copy, named_again, met_first, to_copy, numbered, start}
 use Rattle.qe_norm.specs.Blocks.{prefix, matrix}
 use Rattle.qe_form.specs.Blocks.{under_blocks, bound_by}
-use Rattle.qe_norm.specs.Prenex.{walk, prenex_size, IsPrenexOf, stands_for, IsWellNumbered}
+use Rattle.qe_norm.specs.Prenex.{numbered_form, prenex_size, IsPrenexOf, stands_for, IsWellNumbered}
 use Rattle.qe_norm.proofs.Opened.{normal_form_is, free_normal, normal_is_same, decided_normal}
-use Rattle.qe_norm.proofs.Binders.{Binds, BindsIn, nested, contains_binder, binds_normal, ready}
+use Rattle.qe_norm.proofs.Binders.{in_either, contained, contains, Binds, BindsIn, nested, binds_normal, ready}
 use Rattle.qe_norm.proofs.Steps.{IsTaken, is_met}
-use Rattle.qe_norm.proofs.Outwards.{under, prefix_binds, free_under, free_prenex, outwards}
+use Rattle.qe_norm.proofs.Outwards.{under, vars_of, vars_of_prefix, prefix_binds, free_under, free_prenex, outwards}
 use Rattle.qe_norm.proofs.Walks.{Fits, Made, made, body_fits, as_ex}
 use Rattle.qe_norm.proofs.Negatives.{chain, turned}
 use Rattle.qe_norm.proofs.NormalHolds.{normal_form_holds}
 use Rattle.qe_norm.proofs.OutwardsHold.{outwards_hold}
 use Rattle.qe_norm.proofs.WalksHold.{walk_holds}
 use Rattle.qe_norm.proofs.Grouping.{under_grouped, bound_by_grouped, few_grouped, short_grouped}
-use Rattle.qe_norm.proofs.Matrices.{own_prefix, contained, occurs_under, occurs_matrix, plain_matrix, count_parts}
+use Rattle.qe_norm.proofs.Matrices.{own_binders, occurs_under, occurs_matrix, plain_matrix, count_parts}
 
 -- ---- what occurs in the formula that is read
 
@@ -45,14 +45,14 @@ mutual
   binds_occurs (And fs) x h = bind_occurs fs x h
   binds_occurs (Or fs) x h = bind_occurs fs x h
   binds_occurs (Not f) x h = binds_occurs f x h
-  binds_occurs (Implies f g) x h = elim h [ inl k ↦ inl (binds_occurs f x k) | inr k ↦ inr (binds_occurs g x k) ]
-  binds_occurs (Iff f g) x h = elim h [ inl k ↦ inl (binds_occurs f x k) | inr k ↦ inr (binds_occurs g x k) ]
+  binds_occurs (Implies f g) x h = elim (in_either x (binders f) (binders g) h) [ inl k ↦ inl (binds_occurs f x k) | inr k ↦ inr (binds_occurs g x k) ]
+  binds_occurs (Iff f g) x h = elim (in_either x (binders f) (binders g) h) [ inl k ↦ inl (binds_occurs f x k) | inr k ↦ inr (binds_occurs g x k) ]
   binds_occurs (Ex y f) x h = elim h [ inl e ↦ inl e | inr k ↦ inr (binds_occurs f x k) ]
   binds_occurs (ForAll y f) x h = elim h [ inl e ↦ inl e | inr k ↦ inr (binds_occurs f x k) ]
 
   bind_occurs : (fs : Formulas) (x : ℕ) → BindsIn x fs → OccursInOne x fs
   bind_occurs no_more x h = h
-  bind_occurs (more f fs) x h = elim h [ inl k ↦ inl (binds_occurs f x k) | inr k ↦ inr (bind_occurs fs x k) ]
+  bind_occurs (more f fs) x h = elim (in_either x (binders f) (binders_each fs) h) [ inl k ↦ inl (binds_occurs f x k) | inr k ↦ inr (bind_occurs fs x k) ]
 
 mutual
   pub free_occurs : (f : Formula) (x : ℕ) → IsFree x f → Occurs x f
@@ -138,7 +138,7 @@ module _ (n : ℕ) (Bound : ℕ → Type 0) (below : (z : ℕ) → Bound z → z
   same_core b (Or fs) h w fits new = of_decided _ w fits (decided_normal b (Or fs) h)
   same_core b (Implies f g) h w fits new = of_decided _ w fits (decided_normal b (Implies f g) h)
   same_core b (Iff f g) h w fits new = of_decided _ w fits (decided_normal b (Iff f g) h)
-  same_core b (Not f) h w fits new = by_side h (λ k. same_core (opposite b) f k w fits new)
+  same_core b (Not f) h w fits new = by_side h (λ k. same_core (flipped b) f k w fits new)
     where
       by_side : IsDecided (Not f) ⊎ HasDecidedCore f → (HasDecidedCore f → Same (normal_form b (Not f)) (outside (normal_form b (Not f)) w)) → Same (normal_form b (Not f)) (outside (normal_form b (Not f)) w)
       by_side (inl d) again = of_decided _ w fits (decided_normal b (Not f) d)
@@ -154,7 +154,7 @@ module _ (n : ℕ) (Bound : ℕ → Type 0) (below : (z : ℕ) → Bound z → z
       by_side : IsDecided (ForAll x f) ⊎ HasDecidedCore f → (HasDecidedCore f → (v : Walked) → Fits n Bound below (normal_form b f) [] v → AreNew (normal_form b f) v → Same (normal_form b f) (outside (normal_form b f) v))
           → Same (normal_form b (ForAll x f)) (outside (normal_form b (ForAll x f)) w)
       by_side (inl d) again = of_decided _ w fits (decided_normal b (ForAll x f) d)
-      by_side (inr k) again = quantified_core (opposite b) x (normal_form b f) w fits new (again k)
+      by_side (inr k) again = quantified_core (flipped b) x (normal_form b f) w fits new (again k)
 
 -- ---- the whole
 
@@ -173,10 +173,10 @@ module _ (f : Formula) (names : List (List ℕ)) (well : input_names.IsWellNumbe
 
   -- the formula that the walk makes, and what is met after it
   abbrev g : Formula
-  g = (walk f names).0
+  g = (numbered_form f names).0
 
   abbrev last : Walked
-  last = (walk f names).1
+  last = (numbered_form f names).1
 
   fits : Fits n Bound below nf [] (start names)
   fits = record {
@@ -189,7 +189,7 @@ module _ (f : Formula) (names : List (List ℕ)) (well : input_names.IsWellNumbe
     unmet = λ z h s. absurd s;
     taken = λ z o. record {
       named = well.below z (free_occurs f z (free_normal Positive f z o));
-      met = λ b. absurd (well.bound z (contains_binder z f b) (free_normal Positive f z o));
+      met = λ b. absurd (well.bound z (contains (binders f) z b) (free_normal Positive f z o));
     };
     ready = ready Positive f (nested f well.own);
   }
@@ -232,8 +232,8 @@ module _ (f : Formula) (names : List (List ℕ)) (well : input_names.IsWellNumbe
           let under_is = subst (λ h. Occurs x h) stands o in
           let at : x < length last.names = elim (occurs_under (prefix g) (matrix g) x under_is) [ inl i ↦ named x (inr (prefix_binds g x result.ready i)) | inr k ↦ named x (occurs_matrix g x result.ready k) ] in
           subst (λ ns. x < length ns) (sym is.names) at);
-      own = subst (λ ns. IsDistinct nat_eq ns) (sym (ap bound_by is.blocks ∙ bound_by_grouped (prefix g))) (own_prefix g result.ready result.apart);
-      bound = λ x c o. (free_under (prefix g) (matrix g) x (subst (λ h. IsFree x h) stands o)).0 (contained (prefix g) x (subst (λ ns. Contains ns x) (ap bound_by is.blocks ∙ bound_by_grouped (prefix g)) c));
+      own = subst (λ ns. IsDistinct nat_eq ns) (sym (ap bound_by is.blocks ∙ bound_by_grouped (prefix g))) (subst (λ ns. IsDistinct nat_eq ns) (sym (vars_of_prefix g result.ready)) (own_binders g result.ready result.apart));
+      bound = λ x c o. (free_under (prefix g) (matrix g) x (subst (λ h. IsFree x h) stands o)).0 (contained (vars_of (prefix g)) x (subst (λ ns. Contains ns x) (ap bound_by is.blocks ∙ bound_by_grouped (prefix g)) c));
       short = subst (λ bs. All (λ b. length b.vars ≤ 65536) bs) (sym is.blocks) (short_grouped (prefix g) 65536 (let h = counted in omega arith));
       few = (let e = ap length is.blocks in let h = few_grouped (prefix g) in let k = counted in omega arith);
     }

@@ -1,15 +1,16 @@
--- Quantifiers and matrix of a formula, and the blocks of quantifiers, where neighbours of one kind form a block.
+-- Quantifiers and matrix of a formula, and the blocks of quantifiers, where neighbours of one kind
+-- form a block.
 use Rattle.std.specs.Prelude.{Bool, true, false, cond, List, [], ◌∷◌, ◌++◌, map}
 use Rattle.qe_poly.specs.declared.monomial.Var.{Var}
 use Rattle.qe_form.specs.Formula.{Formula, Formulas}
 use Rattle.qe_form.specs.Formula as formula
-use Rattle.qe_form.specs.Blocks.{Kind, exists, for_all, Block}
+use Rattle.qe_form.specs.Blocks.{QuantifierKind, exists, for_all, Block}
 use Rattle.qe_norm.specs.declared.blocks.Kind as code
 use Rattle.qe_norm.specs.declared.blocks.Kind.TheVariants.{Ex, All}
 use Rattle.qe_norm.specs.declared.walk.Quantifier.{Quantifier}
 
 -- the quantifier that the code's stands for
-abbrev pub kind_of : code.Kind → Kind
+abbrev pub kind_of : code.Kind → QuantifierKind
 kind_of Ex = exists
 kind_of All = for_all
 
@@ -17,7 +18,7 @@ kind_of All = for_all
 abbrev pub block_of : code.Kind → List Var → Block
 block_of kind vars = record { kind = kind_of kind; vars = map (λ x. x.0) vars }
 
-abbrev pub is_same_kind : Kind → Kind → Bool
+abbrev pub is_same_kind : QuantifierKind → QuantifierKind → Bool
 is_same_kind exists exists = true
 is_same_kind for_all for_all = true
 is_same_kind _ _ = false
@@ -30,7 +31,8 @@ alone q = block_of q.kind (q.var ∷ [])
 abbrev pub with_variable : Block → Quantifier → Block
 with_variable b q = record { kind = b.kind; vars = b.vars ++ q.var.0 ∷ [] }
 
--- the blocks with one more quantifier: it joins the last block, where that is of its kind, and else begins one
+-- the blocks with one more quantifier: it joins the last block, where that is of its kind, and else
+-- begins one
 abbrev pub with_quantifier : List Block → Quantifier → List Block
 with_quantifier [] q = alone q ∷ []
 with_quantifier (b ∷ []) q = cond (is_same_kind b.kind (kind_of q.kind)) (with_variable b q ∷ []) (b ∷ alone q ∷ [])

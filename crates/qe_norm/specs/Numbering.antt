@@ -1,5 +1,6 @@
--- The walk through a normal form from left to right, a quantifier before its body, in which each quantifier gets a variable
--- of its own: that of the formula where it is first met, and the next number without a name where it is met again, as a copy.
+-- The walk through a normal form from left to right, a quantifier before its body, in which each
+-- quantifier gets a variable of its own: that of the formula where it is first met, and the next
+-- number without a name where it is met again, as a copy.
 use Rattle.std.specs.Prelude.{ℕ, Bool, true, false, cond, ◌&&◌, nat_lt, List, [], ◌∷◌, ◌++◌, length, replicate, slice_index_or, slice_get, slice_set, unwrap_or}
 use Rattle.qe_poly.specs.Polynomial.{Polynomial}
 use Rattle.qe_poly.specs.Renamed.{renamed}
@@ -11,8 +12,8 @@ pub record Walked : Type 0 where
   pub met : List Bool
   pub names : List (List ℕ)
 
--- Whether a quantifier for the variable was met before. Numbers end below 2^32: where there are so many names it counts as not
--- met, which no promise looks at.
+-- Whether a quantifier for the variable was met before. Numbers end below 2^32: where there are so
+-- many names it counts as not met, and no clause of the prenex form concerns that case.
 abbrev pub is_copy : Walked → ℕ → Bool
 is_copy w x = slice_index_or w.met x false && nat_lt (length w.names) 4294967295
 
@@ -36,7 +37,8 @@ met_after w x = cond (is_copy w x) (named_again w x) (met_first w x)
 abbrev pub to_copy : Walked → ℕ → Renaming
 to_copy w x = record { from = record { 0 = x }; to = record { 0 = length w.names } }
 
--- the renamings in force in the body of a quantifier for x, in the order in which they came into force
+-- the renamings in force in the body of a quantifier for x, in the order in which they came into
+-- force
 abbrev pub within : Walked → ℕ → List Renaming → List Renaming
 within w x rs = cond (is_copy w x) (rs ++ to_copy w x ∷ []) rs
 

@@ -1,5 +1,6 @@
--- A formula is taken as it stands, or negated: the positive and the negative polarity. Each definition gives what becomes of a
--- constant, a connective, a quantifier or a set of signs; at the negative polarity it is the dual.
+-- A formula is taken as it stands, or negated: the positive and the negative polarity. Each
+-- definition gives what becomes of a constant, a connective, a quantifier or a set of signs; at the
+-- negative polarity it is the dual.
 use Rattle.std.specs.Prelude.{ℕ}
 use Rattle.qe_form.specs.declared.signs.Signs.{Signs}
 use Rattle.qe_form.specs.Signs.{complement}
@@ -11,13 +12,13 @@ use Rattle.qe_norm.specs.declared.polarity.Polarity.{Polarity}
 use Rattle.qe_norm.specs.declared.polarity.Polarity.TheVariants.{Positive, Negative}
 
 -- the polarity under a negation
-abbrev pub opposite : Polarity → Polarity
-opposite Positive = Negative
-opposite Negative = Positive
+abbrev pub flipped : Polarity → Polarity
+flipped Positive = Negative
+flipped Negative = Positive
 
-abbrev pub truth : Polarity → Formula
-truth Positive = True
-truth Negative = False
+abbrev pub truth_under : Polarity → Formula
+truth_under Positive = True
+truth_under Negative = False
 
 abbrev pub conjunction : Polarity → Formulas → Formula
 conjunction Positive fs = And fs
@@ -31,10 +32,10 @@ existential Positive x f = formula.Ex x f
 existential Negative x f = formula.All x f
 
 -- which quantifier that is
-abbrev pub kind_at : Polarity → Kind
-kind_at Positive = Ex
-kind_at Negative = All
+abbrev pub kind_under : Polarity → Kind
+kind_under Positive = Ex
+kind_under Negative = All
 
-abbrev pub signs_at : Polarity → Signs → Signs
-signs_at Positive s = s
-signs_at Negative s = complement s
+abbrev pub signs_under : Polarity → Signs → Signs
+signs_under Positive s = s
+signs_under Negative s = complement s

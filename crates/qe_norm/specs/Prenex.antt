@@ -16,20 +16,21 @@ use Rattle.qe_norm.specs.Numbering.{Walked, numbered, start}
 use Rattle.qe_norm.specs.Blocks.{prefix, matrix, grouped}
 
 -- the normal form with a variable of its own for each quantifier, and the names of all variables
-abbrev pub walk : Formula → List (List ℕ) → Formula × Walked
-walk f names = numbered (normal_form Positive f) [] (start names)
+abbrev pub numbered_form : Formula → List (List ℕ) → Formula × Walked
+numbered_form f names = numbered (normal_form Positive f) [] (start names)
 
 -- The prenex form: the quantifiers of the walk in blocks, the rest as the matrix, and the names.
 pub record IsPrenexOf (f : Formula) (given : List (List ℕ)) (p : Prenex) : Type 0 where
-  pub blocks : p.blocks.items ≡ grouped (prefix (walk f given).0)
-  pub matrix : tree p.matrix ≡ matrix (walk f given).0
-  pub names : p.names ≡ (walk f given).1.names
+  pub blocks : p.blocks.items ≡ grouped (prefix (numbered_form f given).0)
+  pub matrix : tree p.matrix ≡ matrix (numbered_form f given).0
+  pub names : p.names ≡ (numbered_form f given).1.names
 
 -- how many atoms, constants and quantifiers the prenex form has: as many as the normal form
 abbrev pub prenex_size : Formula → ℕ
 prenex_size f = count (normal_form Positive f)
 
--- The prenex form where it has at most 65,536 atoms, constants and quantifiers, and else 65,537; or out of memory in place of either.
+-- The prenex form where it has at most 65,536 atoms, constants and quantifiers, and else 65,537; or
+-- out of memory in place of either.
 abbrev pub Answers : Formula → List (List ℕ) → Result Prenex NormStop → Type 0
 Answers f names (Ok p) = (prenex_size f ≤ 65536) × IsPrenexOf f names p
 Answers f names (Err (TooLarge n)) = (65536 < prenex_size f) × (n ≡ 65537)
@@ -39,7 +40,8 @@ Answers f names (Err OutOfMemory) = Unit {0}
 abbrev pub stands_for : Prenex → Formula
 stands_for p = under_blocks p.blocks.items (tree p.matrix)
 
--- Each variable has a name, none stands twice in the blocks or is free there, no block is longer than 65,536 and there are fewer than 2^32 - 1 blocks.
+-- Each variable has a name, none stands twice in the blocks or is free there, no block is longer
+-- than 65,536 and there are fewer than 2^32 - 1 blocks.
 pub record IsWellNumbered (p : Prenex) : Type 0 where
   pub below : (x : ℕ) → Occurs x (stands_for p) → x < length p.names
   pub own : IsDistinct nat_eq (bound_by p.blocks.items)

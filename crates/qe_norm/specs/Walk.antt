@@ -1,4 +1,5 @@
--- What the code does in one walk through a formula: it opens, numbers, and parts quantifiers and matrix at the same time.
+-- What the code does in one walk through a formula: it opens, numbers, and parts quantifiers and
+-- matrix at the same time.
 use Rattle.std.specs.Prelude.{ℕ, ◌+◌, ◌*◌, List, [], ◌∷◌, ◌++◌, length, take}
 use Rattle.qe_form.specs.Formula.{Formula, Formulas, True, False, Atom, And, Or, Not, Implies, Iff, Ex, All, no_more, more}
 use Rattle.qe_norm.specs.declared.blocks.Kind.{Kind}
@@ -6,7 +7,7 @@ use Rattle.qe_norm.specs.declared.polarity.Polarity.{Polarity}
 use Rattle.qe_norm.specs.declared.polarity.Polarity.TheVariants.{Positive, Negative}
 use Rattle.qe_norm.specs.declared.walk.Quantifier.{Quantifier}
 use Rattle.qe_norm.specs.declared.walk.Renaming.{Renaming}
-use Rattle.qe_norm.specs.Polarity.{opposite, truth, conjunction, pair, kind_at, signs_at}
+use Rattle.qe_norm.specs.Polarity.{flipped, truth_under, conjunction, pair, kind_under, signs_under}
 use Rattle.qe_norm.specs.Numbering.{Walked, new_variable, met_after, within, renamed_by, start}
 
 -- how many atoms, constants and quantifiers the normal form has
@@ -28,57 +29,57 @@ abbrev mutual
   size_of_each (more f fs) = size_of f + size_of_each fs
 
 -- the state of a walk: what was met, the quantifiers so far, and the renamings in force
-pub record State : Type 0 where
+pub record WalkState : Type 0 where
   pub walked : Walked
   pub prefix : List Quantifier
   pub renamings : List Renaming
 
 -- before the walk
-abbrev pub begun : List (List ℕ) → State
+abbrev pub begun : List (List ℕ) → WalkState
 begun names = record { walked = start names; prefix = []; renamings = [] }
 
 abbrev pub quantifier : Kind → ℕ → Quantifier
 quantifier kind x = record { kind = kind; var = record { 0 = x } }
 
 -- the state where the walk enters the body of a quantifier for x
-abbrev pub entered : Kind → ℕ → State → State
-entered kind x s = record {
+abbrev pub in_body : Kind → ℕ → WalkState → WalkState
+in_body kind x s = record {
   walked = met_after s.walked x;
   prefix = s.prefix ++ quantifier kind (new_variable s.walked x) ∷ [];
   renamings = within s.walked x s.renamings;
 }
 
 -- the state where it leaves the body: so many renamings stay in force
-abbrev pub left : ℕ → State → State
-left n s = record { walked = s.walked; prefix = s.prefix; renamings = take n s.renamings }
+abbrev pub past_body : ℕ → WalkState → WalkState
+past_body n s = record { walked = s.walked; prefix = s.prefix; renamings = take n s.renamings }
 
 -- the matrix of the normal form of f, or of its negation, and the state after the walk through f
 abbrev mutual
-  pub opened : Polarity → Formula → State → Formula × State
-  opened b True s = (truth b, s)
-  opened b False s = (truth (opposite b), s)
-  opened b (Atom a) s = (Atom (record { poly = renamed_by s.renamings a.poly; signs = signs_at b a.signs }), s)
+  pub opened : Polarity → Formula → WalkState → Formula × WalkState
+  opened b True s = (truth_under b, s)
+  opened b False s = (truth_under (flipped b), s)
+  opened b (Atom a) s = (Atom (record { poly = renamed_by s.renamings a.poly; signs = signs_under b a.signs }), s)
   opened b (And fs) s = (conjunction b (opened_each b fs s).0, (opened_each b fs s).1)
-  opened b (Or fs) s = (conjunction (opposite b) (opened_each b fs s).0, (opened_each b fs s).1)
-  opened b (Not f) s = opened (opposite b) f s
+  opened b (Or fs) s = (conjunction (flipped b) (opened_each b fs s).0, (opened_each b fs s).1)
+  opened b (Not f) s = opened (flipped b) f s
   opened b (Implies f g) s =
-      let first = opened (opposite b) f s in
+      let first = opened (flipped b) f s in
       let second = opened b g first.1 in
-      (pair (opposite b) first.0 second.0, second.1)
+      (pair (flipped b) first.0 second.0, second.1)
   opened b (Iff f g) s =
       let first = opened Positive f s in
       let second = opened b g first.1 in
       let third = opened Negative f second.1 in
-      let fourth = opened (opposite b) g third.1 in
+      let fourth = opened (flipped b) g third.1 in
       (pair Negative (pair Positive first.0 second.0) (pair Positive third.0 fourth.0), fourth.1)
   opened b (Ex x f) s =
-      let body = opened b f (entered (kind_at b) x s) in
-      (body.0, left (length s.renamings) body.1)
+      let body = opened b f (in_body (kind_under b) x s) in
+      (body.0, past_body (length s.renamings) body.1)
   opened b (All x f) s =
-      let body = opened b f (entered (kind_at (opposite b)) x s) in
-      (body.0, left (length s.renamings) body.1)
+      let body = opened b f (in_body (kind_under (flipped b)) x s) in
+      (body.0, past_body (length s.renamings) body.1)
 
-  pub opened_each : Polarity → Formulas → State → Formulas × State
+  pub opened_each : Polarity → Formulas → WalkState → Formulas × WalkState
   opened_each b no_more s = (no_more, s)
   opened_each b (more f fs) s =
       let first = opened b f s in

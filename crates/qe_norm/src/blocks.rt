@@ -27,7 +27,8 @@ impl Model for Block {
     ghost view = { λ b. block_of b.kind b.vars };
 }
 
-/// A formula as blocks of quantifiers, the outermost first, over a matrix of constants, atoms, And and Or.
+/// A formula as blocks of quantifiers, the outermost first, over a matrix of constants, atoms, And
+/// and Or.
 #[derive(Drop)]
 pub struct Prenex {
     pub blocks: Vec<Block>,

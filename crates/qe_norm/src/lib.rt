@@ -1,4 +1,4 @@
-//! The prenex form: negations move inwards, quantifiers outwards, and neighbours of one kind form blocks.
+//! The prenex form: negations move inwards, quantifiers outwards; neighbours of one kind form blocks.
 //! Knows nothing of texts, nor of how quantifiers are eliminated.
 #![tactic(auto)]
 

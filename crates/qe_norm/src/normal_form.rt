@@ -33,16 +33,17 @@ fn prenex(alloc: Global, form: &Form, names: Names) -> Result<Prenex, OutOfMemor
     })
 }
 
-/// The prenex form. Implications and equivalences are opened and negations move to the atoms; the quantifiers, in the
-/// order of the text, form the blocks, and the rest is the matrix. The quantifiers of the parts of an equivalence come
-/// twice: a copy gets the next number that has no name, and the name of its variable again.
+/// The prenex form. Implications and equivalences are opened and negations move to the atoms; the
+/// quantifiers, in the order of the text, form the blocks, and the rest is the matrix. The
+/// quantifiers of the parts of an equivalence come twice: a copy gets the next number that has no
+/// name, and the name of its variable again.
 ///
-/// `TooLarge` comes where the prenex form has more than 65,536 atoms, constants and quantifiers; it is not built then. The
-/// variables of the input are well numbered, and fewer than 2^31.
+/// `TooLarge` comes where the prenex form has more than 65,536 atoms, constants and quantifiers; it
+/// is not built then. The variables of the input are well numbered, and fewer than 2^31.
 ///
-/// The prenex form holds exactly where the input does. It is true where the input is, and false where that is false. The two are
-/// the same, both ways, where the formula behind the outer quantifiers and negations is true or false at each point, as it is
-/// with excluded middle.
+/// The prenex form holds exactly where the input does. It is true where the input is, and false
+/// where that is false. The two are the same, both ways, where the formula behind the outer
+/// quantifiers and negations is true or false at each point, as it is with excluded middle.
 pub fn normal(alloc: Global, input: Input) -> Result<Prenex, NormStop>
     requires numbered { input_names.IsWellNumbered (tree input.form) input.names }
     requires few { length input.names < 2 ^ 31 }

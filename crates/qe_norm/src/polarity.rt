@@ -1,8 +1,9 @@
-//! Whether a formula is taken as it stands or negated: what a quantifier, a constant, a connective and a set of signs become.
+//! Whether a formula is taken as it stands or negated: what a quantifier, a constant, a connective
+//! and a set of signs become.
 
 ghost use Rattle.std.specs.Prelude.{◌≡◌, IfOk};
 ghost use Rattle.qe_form.specs.Tree.{tree, trees};
-ghost use Rattle.qe_norm.specs.Polarity.{opposite, truth, conjunction, pair, signs_at, kind_at};
+ghost use Rattle.qe_norm.specs.Polarity.{flipped, truth_under, conjunction, pair, signs_under, kind_under};
 
 use crate::OutOfMemory;
 use crate::blocks::Kind;
@@ -18,8 +19,8 @@ pub enum Polarity {
 
 impl Polarity {
     /// The polarity under a negation.
-    pub fn opposite(self) -> Polarity
-        ensures { result ≡ opposite self }
+    pub fn flipped(self) -> Polarity
+        ensures { result ≡ flipped self }
     {
         match self {
             Polarity::Positive => Polarity::Negative,
@@ -29,7 +30,7 @@ impl Polarity {
 
     /// What `Ex` becomes.
     pub fn kind(self) -> Kind
-        ensures { result ≡ kind_at self }
+        ensures { result ≡ kind_under self }
     {
         match self {
             Polarity::Positive => Kind::Ex,
@@ -39,7 +40,7 @@ impl Polarity {
 
     /// What True becomes.
     pub fn truth(self) -> Form
-        ensures { tree result ≡ truth self }
+        ensures { tree result ≡ truth_under self }
     {
         match self {
             Polarity::Positive => Form::True,
@@ -69,7 +70,7 @@ impl Polarity {
 
     /// What the signs of an atom become.
     pub fn signs(self, signs: Signs) -> Signs
-        ensures { result ≡ signs_at self signs }
+        ensures { result ≡ signs_under self signs }
     {
         match self {
             Polarity::Positive => signs,

@@ -6,7 +6,8 @@ ghost use Rattle.qe_norm.specs.Walk.{size_of, size_of_each};
 
 use qe_form::{Form, Forms, count_sum};
 
-/// How many atoms, constants and quantifiers the normal form of the formula has, as that of its negation; 65,537 where it has more.
+/// How many atoms, constants and quantifiers the normal form of the formula has, as that of its
+/// negation; 65,537 where it has more.
 #[cycle(size)]
 pub fn size(form: &Form) -> u32
     ensures { result ≡ min 65537 (size_of (tree form.now)) }

@@ -4,9 +4,9 @@ ghost use Rattle.std.specs.Prelude.{◌≡◌, ◌∷◌, ◌++◌, ◌<◌, ◌
 ghost use Rattle.std.specs.String.{string_bytes};
 ghost use Rattle.qe_form.specs.Formula as formula;
 ghost use Rattle.qe_form.specs.Tree.{tree, trees};
-ghost use Rattle.qe_norm.specs.Polarity.{signs_at};
+ghost use Rattle.qe_norm.specs.Polarity.{signs_under};
 ghost use Rattle.qe_norm.specs.Numbering.{is_copy, named_again, met_first, to_copy, renamed_by};
-ghost use Rattle.qe_norm.specs.Walk.{begun, entered, left, opened, opened_each};
+ghost use Rattle.qe_norm.specs.Walk.{begun, in_body, past_body, opened, opened_each};
 
 use crate::OutOfMemory;
 use crate::blocks::Kind;
@@ -29,8 +29,8 @@ pub struct Renaming {
     pub to: Var,
 }
 
-/// The state of a walk: for each variable of the formula whether a quantifier for it was met, the names, the quantifiers
-/// in order, and the renamings in force.
+/// The state of a walk: for each variable of the formula whether a quantifier for it was met, the
+/// names, the quantifiers in order, and the renamings in force.
 #[derive(Drop)]
 pub struct Walk {
     met: Vec<bool>,
@@ -40,9 +40,9 @@ pub struct Walk {
 }
 
 impl Model for Walk {
-    ghost use Rattle.qe_norm.specs.Walk.{State};
+    ghost use Rattle.qe_norm.specs.Walk.{WalkState};
 
-    ghost Value = { State };
+    ghost Value = { WalkState };
 
     ghost view = { λ w. record { walked = record { met = w.met.items; names = w.names }; prefix = w.prefix.items; renamings = w.renamings.items } };
 }
@@ -69,7 +69,7 @@ fn open_atom(
 ) -> Result<Form, OutOfMemory>
     ensures { IfOk result (λ f. tree f ≡ formula.Atom (record {
       poly = renamed_by renamings.now atom.now.poly;
-      signs = signs_at polarity atom.now.signs;
+      signs = signs_under polarity atom.now.signs;
     })) }
 {
     Ok(Form::Atom(Atom {
@@ -138,7 +138,7 @@ impl Walk {
 
     /// A quantifier is met.
     fn enter(&mut self, alloc: Global, quantifier: Quantifier) -> Result<(), OutOfMemory>
-        ensures { OnOk result (self.new ≡ entered quantifier.kind quantifier.var.0 self.old) }
+        ensures { OnOk result (self.new ≡ in_body quantifier.kind quantifier.var.0 self.old) }
     {
         let var = if self.is_copy(quantifier.var) {
             self.meet_again(alloc, quantifier.var)?
@@ -167,7 +167,7 @@ pub fn open(
 {
     match form {
         Form::True => Ok(polarity.truth()),
-        Form::False => Ok(polarity.opposite().truth()),
+        Form::False => Ok(polarity.flipped().truth()),
         Form::Atom(atom) => open_atom(alloc, &walk.renamings, atom, polarity),
         Form::And(parts) => {
             let matrices = open_all(alloc, walk, parts, polarity)?;
@@ -175,13 +175,13 @@ pub fn open(
         }
         Form::Or(parts) => {
             let matrices = open_all(alloc, walk, parts, polarity)?;
-            Ok(polarity.opposite().conjunction(matrices))
+            Ok(polarity.flipped().conjunction(matrices))
         }
-        Form::Not(inner) => open(alloc, walk, inner, polarity.opposite()),
+        Form::Not(inner) => open(alloc, walk, inner, polarity.flipped()),
         Form::Implies(left, right) => {
-            let first = open(alloc, walk, left, polarity.opposite())?;
+            let first = open(alloc, walk, left, polarity.flipped())?;
             let second = open(alloc, walk, right, polarity)?;
-            polarity.opposite().pair(alloc, first, second)
+            polarity.flipped().pair(alloc, first, second)
         }
         Form::Iff(left, right) => {
             // both or neither; in the negation one without the other
@@ -189,7 +189,7 @@ pub fn open(
             let second = open(alloc, walk, right, polarity)?;
             let one = Polarity::Positive.pair(alloc, first, second)?;
             let third = open(alloc, walk, left, Polarity::Negative)?;
-            let fourth = open(alloc, walk, right, polarity.opposite())?;
+            let fourth = open(alloc, walk, right, polarity.flipped())?;
             let other = Polarity::Positive.pair(alloc, third, fourth)?;
             Polarity::Negative.pair(alloc, one, other)
         }
@@ -198,7 +198,7 @@ pub fn open(
             open_body(alloc, walk, Quantifier { kind, var: *var }, body, polarity)
         }
         Form::All(var, body) => {
-            let kind = polarity.opposite().kind();
+            let kind = polarity.flipped().kind();
             open_body(alloc, walk, Quantifier { kind, var: *var }, body, polarity)
         }
     }
@@ -213,9 +213,9 @@ fn open_body(
     body: &Form,
     polarity: Polarity,
 ) -> Result<Form, OutOfMemory>
-    ensures state { let s = entered quantifier.kind quantifier.var.0 walk.old in
-        OnOk result (walk.new ≡ left (length walk.old.renamings) (opened polarity (tree body.now) s).1) }
-    ensures matrix { let s = entered quantifier.kind quantifier.var.0 walk.old in
+    ensures state { let s = in_body quantifier.kind quantifier.var.0 walk.old in
+        OnOk result (walk.new ≡ past_body (length walk.old.renamings) (opened polarity (tree body.now) s).1) }
+    ensures matrix { let s = in_body quantifier.kind quantifier.var.0 walk.old in
         IfOk result (λ f. tree f ≡ (opened polarity (tree body.now) s).0) }
 {
     let depth = walk.renamings.len();

@@ -3,7 +3,7 @@ use Rattle.std.specs.Prelude.{ℕ, List}
 use Rattle.qe_form.specs.Formula.{Formula}
 use Rattle.qe_norm.specs.Blocks.{prefix, grouped}
 use Rattle.qe_norm.specs.Blocks as prenex
-use Rattle.qe_norm.specs.Prenex.{walk}
+use Rattle.qe_norm.specs.Prenex.{numbered_form}
 use Rattle.qe_form.specs.Blocks.{Block}
 use Rattle.qe_tree.specs.Block.{Eliminated, eliminated, EachBlock, AtBlock, Fits, IsWithin, IsBeyond}
 use Rattle.qe_node.specs.declared.stop.NodeStop.{NodeStop}
@@ -12,13 +12,13 @@ use Rattle.qe_read.specs.Names.{Letters}
 
 -- the blocks of the prenex form, its matrix, and the names of its variables
 abbrev pub blocks : Formula → List Letters → List Block
-blocks f names = grouped (prefix (walk f names).0)
+blocks f names = grouped (prefix (numbered_form f names).0)
 
 abbrev pub matrix : Formula → List Letters → Formula
-matrix f names = prenex.matrix (walk f names).0
+matrix f names = prenex.matrix (numbered_form f names).0
 
 abbrev pub all_names : Formula → List Letters → List Letters
-all_names f names = (walk f names).1.names
+all_names f names = (numbered_form f names).1.names
 
 -- the formula without quantifiers, or the block that stops, the steps to its first node that fails, and why
 abbrev pub outcome : Formula → List Letters → Eliminated NodeStop

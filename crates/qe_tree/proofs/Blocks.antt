@@ -11,7 +11,7 @@ use Rattle.qe_form.specs.Plain.{ArePlainWith}
 use Rattle.qe_form.specs.Same.{IsFree, IsFreeInSome, HasNoQuantifier}
 use Rattle.qe_form.proofs.Occurring.{occurring_is_free}
 use Rattle.qe_simp.specs.Simplified.{simplified}
-use Rattle.qe_form.specs.Blocks.{Kind, exists, for_all, Block, under_each, under_blocks}
+use Rattle.qe_form.specs.Blocks.{QuantifierKind, exists, for_all, Block, under_each, under_blocks}
 use Rattle.qe_tree.specs.Variables.{remaining, under_ex}
 use Rattle.qe_tree.specs.Expanded.{Expansion}
 use Rattle.qe_tree.specs.Tree.{Step, Place, Inner, form, node, is_empty, is_leaf, places, nodes, leaves, first_failure, has_true_leaf, or_form, inner}
@@ -143,12 +143,12 @@ module _ {F : Type 0} (Good : Formula → Type 0) (expand : Expansion F) (sound 
 
   -- ---- blocks
 
-  matrix_fine : (kind : Kind) (m : Formula) → IsFine m → IsFine (matrix_for kind m)
+  matrix_fine : (kind : QuantifierKind) (m : Formula) → IsFine m → IsFine (matrix_for kind m)
   matrix_fine exists m fine = fine
   matrix_fine for_all m fine = negated_fine m fine
 
   -- what the tree of the block gives over a matrix
-  tree_stands : (kind : Kind) (vars : List ℕ) (m h : Formula) → IsReady Good (matrix_for kind m) → inner expand vars (root kind m) ≡ form h → StandsFine (under_each kind vars m) (result_for kind h)
+  tree_stands : (kind : QuantifierKind) (vars : List ℕ) (m h : Formula) → IsReady Good (matrix_for kind m) → inner expand vars (root kind m) ≡ form h → StandsFine (under_each kind vars m) (result_for kind h)
   tree_stands exists vars m h ready is =
       let w = inner_stands vars (simplified m) ready.good h is in
       record {

@@ -25,7 +25,7 @@ value_same [] p q same = refl
 value_same (t ∷ ts) p q same = ap₂ add (ap (mul (whole_number t.1)) (monomial_same t.0 p q (λ x o. same x (inl o)))) (value_same ts p q (λ x o. same x (inr o)))
 
 mutual
-  -- what is so at a point is so at another that gives the variables of the formula the same numbers
+  -- truth carries over to a point that gives the variables of the formula the same numbers
   pub moved : (f : Formula) → HasNoQuantifier f → (b : Bool) (p q : Point) → SameOn (λ x. Has x f) p q → Is f b p → Is f b q
   moved True none b p q same t = t
   moved False none b p q same t = t

@@ -11,7 +11,7 @@ use Rattle.qe_tree.specs.Variables.{remaining}
 use Rattle.qe_tree.specs.Expanded.{Expansion}
 use Rattle.qe_tree.specs.Tree.{Step, Place, Inner, form, node, is_empty, unless_leaf, grown, is_leaf, below, walk, places, first_places, nodes, leaves, first_failure, has_true_leaf, or_form, inner}
 use Rattle.qe_tree.specs.Sound.{Each, IsFine, IsReady, IsSound}
-use Rattle.qe_form.specs.Blocks.{Kind, exists, for_all, Block}
+use Rattle.qe_form.specs.Blocks.{QuantifierKind, exists, for_all, Block}
 use Rattle.qe_tree.specs.Block.{matrix_for, root, result_for, given, of_inner, block_over, Fits}
 use Rattle.qe_tree.proofs.Stands.{negated_fine}
 use Rattle.qe_tree.proofs.Walks.{EachForm, EachForm-append, IsBelow, all_below, each_walk}
@@ -39,11 +39,11 @@ mutual
 pub ready_small : (Good : Formula → Type 0) (f : Formula) → IsReady Good f → count f < 2 ^ 50 → count (simplified f) < 2 ^ 50
 ready_small Good f ready small = let size = ready.keeps.size in omega arith
 
-matrix_small : (kind : Kind) (m : Formula) → count m < 2 ^ 50 → count (matrix_for kind m) < 2 ^ 50
+matrix_small : (kind : QuantifierKind) (m : Formula) → count m < 2 ^ 50 → count (matrix_for kind m) < 2 ^ 50
 matrix_small exists m small = small
 matrix_small for_all m small = subst (λ n. n < 2 ^ 50) (sym (count_negated m)) small
 
-pub root_small : (Good : Formula → Type 0) (kind : Kind) (m : Formula) → IsReady Good (matrix_for kind m) → count m < 2 ^ 50 → count (root kind m) < 2 ^ 50
+pub root_small : (Good : Formula → Type 0) (kind : QuantifierKind) (m : Formula) → IsReady Good (matrix_for kind m) → count m < 2 ^ 50 → count (root kind m) < 2 ^ 50
 root_small Good kind m ready small = ready_small Good (matrix_for kind m) ready (matrix_small kind m small)
 
 module _ {F : Type 0} (Good : Formula → Type 0) (expand : Expansion F) (sound : IsSound Good expand) (vars : List ℕ) where
@@ -128,7 +128,7 @@ module _ {F : Type 0} (Good : Formula → Type 0) (expand : Expansion F) (sound 
       by_leaf false test is (inr most) few small = by_failure (first_failure expand vars (nodes expand vars f)) is most few small
 
 module _ {F : Type 0} (Good : Formula → Type 0) (expand : Expansion F) (sound : IsSound Good expand) where
-  result_small : (kind : Kind) (h : Formula) → IsFine h → count h < 2 ^ 50 → count (result_for kind h) < 2 ^ 50
+  result_small : (kind : QuantifierKind) (h : Formula) → IsFine h → count h < 2 ^ 50 → count (result_for kind h) < 2 ^ 50
   result_small exists h fine small = small
   result_small for_all h fine small = ready_small Good (negated h) (fine_ready Good expand sound (negated h) (negated_fine h fine)) (matrix_small for_all h small)
 

@@ -10,11 +10,11 @@ use Rattle.qe_form.specs.Negation.{negated, negated_each}
 use Rattle.qe_form.proofs.TwoSides.{never_both, decided}
 use Rattle.qe_form.proofs.Opposites.{negated_opposite}
 use Rattle.qe_simp.specs.Meaning.{Keeps}
-use Rattle.qe_form.specs.Blocks.{Kind, exists, for_all, under_one, under_each}
+use Rattle.qe_form.specs.Blocks.{QuantifierKind, exists, for_all, under_one, under_each}
 use Rattle.qe_tree.specs.Variables.{under_ex}
 use Rattle.qe_tree.specs.Sound.{IsIn, IsFine}
 
--- g has no further free variable, and is true and false where f is so, at every point
+-- g has no further free variable, and at every point it is true where f is true, and false where f is false
 pub record Stands (f g : Formula) : Type 0 where
   pub free : (x : ℕ) → IsFree x g → IsFree x f
   pub agree : (p : Point) → IsPoint p → Agree f g p
@@ -56,11 +56,11 @@ stands_all x f g s = record { free = λ y h. (h.0, s.free y h.1); agree = agree 
       (λ t. (t.0, t.1, (s.agree ((x, t.0) ∷ p) (t.1, valid) false).1 t.2)),
     )
 
-stands_under_one : (kind : Kind) (x : ℕ) (f g : Formula) → Stands f g → Stands (under_one kind x f) (under_one kind x g)
+stands_under_one : (kind : QuantifierKind) (x : ℕ) (f g : Formula) → Stands f g → Stands (under_one kind x f) (under_one kind x g)
 stands_under_one exists x f g s = stands_ex x f g s
 stands_under_one for_all x f g s = stands_all x f g s
 
-pub stands_under_each : (kind : Kind) (xs : List ℕ) (f g : Formula) → Stands f g → Stands (under_each kind xs f) (under_each kind xs g)
+pub stands_under_each : (kind : QuantifierKind) (xs : List ℕ) (f g : Formula) → Stands f g → Stands (under_each kind xs f) (under_each kind xs g)
 stands_under_each kind [] f g s = s
 stands_under_each kind (x ∷ xs) f g s = stands_under_one kind x (under_each kind xs f) (under_each kind xs g) (stands_under_each kind xs f g s)
 

@@ -2,32 +2,33 @@
 use Rattle.std.specs.Prelude.{ℕ, suc, ◌≡◌, ◌≤◌, ◌<◌, ◌⊎◌, IsTrue, List, [], ◌∷◌, length}
 use Rattle.qe_form.specs.Formula.{Formula}
 use Rattle.qe_form.specs.Negation.{negated}
-use Rattle.qe_form.specs.Blocks.{Kind, exists, for_all, Block}
+use Rattle.qe_form.specs.Blocks.{QuantifierKind, exists, for_all, Block}
 use Rattle.qe_simp.specs.Simplified.{simplified}
 use Rattle.qe_tree.specs.Expanded.{Expansion}
 use Rattle.qe_tree.specs.Tree.{Step, Inner, form, node, nodes, inner, has_true_leaf}
 
 -- the matrix as the block's tree takes it: negated for `all`
-abbrev pub matrix_for : Kind → Formula → Formula
+abbrev pub matrix_for : QuantifierKind → Formula → Formula
 matrix_for exists m = m
 matrix_for for_all m = negated m
 
 -- the formula at the root of a block's tree
-abbrev pub root : Kind → Formula → Formula
+abbrev pub root : QuantifierKind → Formula → Formula
 root kind m = simplified (matrix_for kind m)
 
 -- what the block gives where its tree gives this formula
-abbrev pub result_for : Kind → Formula → Formula
+abbrev pub result_for : QuantifierKind → Formula → Formula
 result_for exists g = g
 result_for for_all g = simplified (negated g)
 
--- a formula without the blocks' variables; or the number of the block that stops, the steps to its first node that fails, and why
+-- a formula without the blocks' variables; or the number of the block that stops, the steps to its
+-- first node that fails, and why
 pub data Eliminated (F : Type 0) : Type 0 where
   given : Formula → Eliminated F
   stopped : ℕ → List Step → F → Eliminated F
 
 module _ {F : Type 0} (expand : Expansion F) where
-  abbrev pub of_inner : Kind → ℕ → Inner F → Eliminated F
+  abbrev pub of_inner : QuantifierKind → ℕ → Inner F → Eliminated F
   of_inner kind n (form g) = given (result_for kind g)
   of_inner kind n (node path s) = stopped n path s
 
@@ -70,8 +71,8 @@ module _ {F : Type 0} (expand : Expansion F) where
   abbrev pub Fits : ℕ → Block → Formula → Type 0
   Fits limit b m = IsTrue (has_true_leaf expand b.vars (nodes expand b.vars (root b.kind m))) ⊎ IsWithin limit b m
 
-  -- P of the block with the number k and its matrix, which the blocks further in give; and Q of each of
-  -- these and its own matrix
+  -- P of the block with the number k and its matrix, which the blocks further in give; and Q of
+  -- each of these and its own matrix
   abbrev pub AtBlock : (Block → Formula → Type 0) → (Block → Formula → Type 0) → ℕ → ℕ → List Block → Formula → Type 0
   AtBlock P Q k n [] m = ⊥
   AtBlock P Q k n (b ∷ bs) m =

@@ -2,7 +2,8 @@
 use Rattle.std.specs.Prelude.{ℕ, List}
 use Rattle.qe_form.specs.Formula.{Formula}
 
--- Its successors, each with the number of the test point of the variable that is eliminated; or why it has none.
+-- Its successors, each with the number of the test point of the variable that is eliminated; or why
+-- it has none.
 pub data Expanded (F : Type 0) : Type 0 where
   successors : ℕ → List (ℕ × Formula) → Expanded F
   failed : F → Expanded F

@@ -18,13 +18,15 @@ abbrev pub OccursIsHas : Type 0
 OccursIsHas = (x : ℕ) (f : Formula) → IsTrue (occurs x f) ↔ Has x f
 
 module _ {F : Type 0} (Good : Formula → Type 0) (expand : Expansion F) where
-  -- a node is true for some values of its variables exactly where some successor is so for its own
+  -- a node is true for some values of its variables exactly where some successor is true for some
+  -- values of its own
   abbrev pub GrowthKeepsTruth : Type 0
   GrowthKeepsTruth =
       (vars : List ℕ) (f : Formula) → Good f → (x : ℕ) (parts : List (ℕ × Formula)) → expand (remaining vars f) f ≡ successors x parts
       → (p : Point) → IsPoint p → Is (existential_closure vars f) true p ↔ Is (Or (trees_of (map (existential_closure vars) (forms_of parts)))) true p
 
-  -- a block's inner result, where it is a formula, is the same as the root under `ex` of the block's variables
+  -- a block's inner result, where it is a formula, is the same as the root under `ex` of the
+  -- block's variables
   abbrev pub InnerIsSame : Type 0
   InnerIsSame = (vars : List ℕ) (f g : Formula) → Good f → inner expand vars f ≡ form g → IsFine g × Same (under_ex vars f) g
 

@@ -30,8 +30,8 @@ IsFine f = IsPlainWith (λ a. IsPolynomial a.poly) f
 abbrev pub forms_of : List (ℕ × Formula) → List Formula
 forms_of parts = map (λ s. s.1) parts
 
--- The successors of a formula with x among its variables: some of them is true exactly where the formula is true for some x, in
--- none occurs x, or a variable that the formula has not, and none is large.
+-- The successors of a formula f with x among its variables: some successor is true exactly where f is
+-- true for some x; neither x nor a variable that does not occur in f occurs in one; none is large.
 pub record IsGrown (Good : Formula → Type 0) (vars : List ℕ) (f : Formula) (x : ℕ) (parts : List (ℕ × Formula)) : Type 0 where
   pub chosen : IsIn x vars
   pub good : Each Good (forms_of parts)
@@ -44,7 +44,8 @@ pub record IsReady (Good : Formula → Type 0) (f : Formula) : Type 0 where
   pub good : Good (simplified f)
   pub keeps : Keeps f (simplified f)
 
--- The good formulas are those that come up: simplified ones. The successors of each node are grown from it.
+-- The good formulas are those that come up: simplified ones. The successors of each node are grown
+-- from it.
 pub record IsSound {F : Type 0} (Good : Formula → Type 0) (expand : Expansion F) : Type 0 where
   pub fine : (f : Formula) → Good f → IsFine f
   pub good : (f : Formula) → IsFine f → Good (simplified f)

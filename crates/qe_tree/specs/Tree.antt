@@ -1,4 +1,5 @@
--- The tree of a block: its root and, below each node that has variables and does not fail, the successors in order.
+-- The tree of a block: its root and, below each node that has variables and does not fail, the
+-- successors in order.
 use Rattle.std.specs.Prelude.{ℕ, zero, suc, Bool, true, false, cond, List, [], ◌∷◌, ◌++◌, map, filter, flat_map, length, Option, Some, None}
 use Rattle.std.specs.List.{list_any}
 use Rattle.std.specs.Ordering.{is_eq}
@@ -64,7 +65,8 @@ module _ {F : Type 0} (expand : Expansion F) (vars : List ℕ) where
   walk zero path f = record { path = path; form = f } ∷ []
   walk (suc n) path f = record { path = path; form = f } ∷ flat_map (λ s. walk n (path ++ s.0 ∷ []) s.1) (below f)
 
-  -- the places of the whole tree, with repeats: each step eliminates a variable, so there are no more steps than variables
+  -- the places of the whole tree, with repeats: each step eliminates a variable, so there are no
+  -- more steps than variables
   abbrev pub places : Formula → List Place
   places f = walk (length (remaining vars f)) [] f
 
