@@ -1,6 +1,6 @@
 -- The variables of a list that pass a test, found one after another.
 use Rattle.std.proofs.Common.{◌≢◌, ◌^◌, filter, subst, ℕ, ◌+◌, ◌<◌, ◌≤◌, ◌≡◌, ◌∙◌, sym, ap, refl, Bool, true, false, cond, List, [], ◌∷◌, ◌++◌, map, length, get_or, drop, drop-cons, append_assoc, append-nil, arith}
-use Rattle.std.specs.Prelude.{IsTrue, AllPairs, eqb, not, ◌&&◌}
+use Rattle.std.specs.Prelude.{AllPairs, eqb, not, ◌&&◌}
 use lib.Pointwise.{pointwise}
 use Rattle.std.proofs.lemmas.List.Kept.{AllPairs-filter}
 use Rattle.std.proofs.lemmas.List.{drop_all, length-map}
