@@ -5,7 +5,7 @@ use Rattle.qe_poly.specs.declared.monomial.Var.{Var}
 use Rattle.qe_poly.specs.Polynomial.{IsPolynomial}
 use Rattle.qe_form.specs.Formula.{Formula, And, no_more, more}
 use Rattle.qe_form.specs.Measures.{degree, count, Has}
-use Rattle.qe_form.specs.Plain.{IsPlain, IsPlainAndProper}
+use Rattle.qe_form.specs.Plain.{IsPlainAndProper}
 use Rattle.qe_form.specs.Same.{IsFree, HasNoQuantifier}
 use Rattle.qe_form.proofs.Occurring.{occurring_is_free}
 use Rattle.qe_simp.specs.Simplified.{simplified}

@@ -28,20 +28,13 @@ pub struct Grown {
     pub successors: Vec<Next<Node>>,
 }
 
-/// Whether the variable is another.
-fn is_other(var: Var, x: Var) -> bool
-    ensures { result ≡ not (eqb var.0 x.0) }
-{
-    var.0 != x.0
-}
-
 /// The variables other than this one, in their order.
 fn others(alloc: Global, vars: &[Var], x: Var) -> Result<Vars, OutOfMemory>
     ensures { IfOk result (λ vs. map (λ v. v.0) vs ≡ others x.0 (map (λ v. v.0) vars.now)) }
 {
     let mut left = Sequence::new(alloc);
     for var in vars {
-        if is_other(*var, x) {
+        if *var != x {
             left.push(*var)?;
         }
     }

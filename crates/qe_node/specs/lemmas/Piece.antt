@@ -1,5 +1,5 @@
 -- What holds of nodes as pieces: only a leaf is true, and a successor has fewer variables.
-use Rattle.std.specs.Prelude.{◌≡◌, refl, ℕ, ◌<◌, ◌≤◌, Bool, true, false, not, ◌&&◌, eqb, cond, List, [], ◌∷◌, filter, map, length, Option, Some, None, Result, Ok, Err}
+use Rattle.std.specs.Prelude.{◌≡◌, refl, ℕ, ◌<◌, ◌≤◌, Bool, true, false, not, eqb, cond, List, [], ◌∷◌, filter, map, length, Option, Some, None, Result, Ok, Err}
 use Rattle.std.specs.List.{All}
 use Rattle.std.proofs.Common.{ap, sym, subst, inl, inr, arith}
 use Rattle.std.proofs.lemmas.List.Elements.{All-nil, All-cons}
