@@ -24,7 +24,7 @@ use Rattle.qe_elim.specs.declared.eliminate.Outcome.{Outcome}
 use Rattle.qe_elim.specs.declared.eliminate.ElimStop.{ElimStop}
 use Rattle.qe_elim.specs.declared.eliminate.ElimStop.TheVariants as stop
 use Rattle.qe_elim.specs.Search.{steps_of}
-use Rattle.qe_elim.specs.Answer.{IsBlock, IsAnswer, IsNoLimit}
+use Rattle.qe_elim.specs.Answer.{IsBlock, IsElimination, IsNoLimit}
 use Rattle.qe_elim.proofs.Soundness.{Good, sound}
 
 -- ---- numbers of blocks
@@ -121,7 +121,7 @@ module _ (m : Formula) (limit : ℕ) (few : limit < 2 ^ 32) (bs : List Block) (k
       let last : suc k ≡ k + 1 = omega arith in
       subst (λ i. AtBlock expansion P (Fits expansion limit) i 1 bs m) (sym is) (at_place m P (Fits expansion limit) b rest g k 1 (suc k) last bs at further_fit further p)
 
-  pub block_stops : (n : ℕ) → n ≡ suc k → (e : ElimStop) → IsBlock limit n b g (Err e) → IsAnswer limit bs m (Err e)
+  pub block_stops : (n : ℕ) → n ≡ suc k → (e : ElimStop) → IsBlock limit n b g (Err e) → IsElimination limit bs m (Err e)
   block_stops n is (stop.Node j path s) answer =
       let number : j ≡ n = answer.0 in
       let last : suc k ≡ k + 1 = omega arith in
@@ -145,7 +145,7 @@ never_beyond limit k n (b ∷ bs) m each (inl w) = clash (subst (IfGiven expansi
     clash within beyond = omega arith
 never_beyond limit k n (b ∷ bs) m each (inr later) = never_beyond limit k (suc n) bs m each.0 later
 
-pub complete : (limit : ℕ) (bs : List Block) (m : Formula) (result : Result Outcome ElimStop) → IsAnswer limit bs m result → EachBlock expansion (IsWithin expansion limit) 1 bs m → IsNoLimit result
+pub complete : (limit : ℕ) (bs : List Block) (m : Formula) (result : Result Outcome ElimStop) → IsElimination limit bs m result → EachBlock expansion (IsWithin expansion limit) 1 bs m → IsNoLimit result
 complete limit bs m (Ok outcome) answer each = tt
 complete limit bs m (Err (stop.Node k path s)) answer each = tt
 complete limit bs m (Err (stop.NodeLimit k most)) answer each = never_beyond limit k 1 bs m each answer.1

@@ -1,19 +1,16 @@
 -- The search comes by the distinct nodes of the tree, each at its first place.
-use Rattle.std.proofs.Common.{ℕ, ◌≡◌, ◌≢◌, ◌∙◌, sym, ap, refl, subst, ◌<◌, ◌≤◌, inl, inr, Bool, true, false, not, cond, eqb, List, [], ◌∷◌, ◌++◌, map, filter, length, length-append, Option, Some, None, Ok, Err, arith}
+use Rattle.std.proofs.Common.{ℕ, ◌≡◌, ◌≢◌, ◌∙◌, sym, ap, refl, subst, ◌<◌, ◌≤◌, inl, inr, true, false, cond, List, [], ◌∷◌, ◌++◌, map, length, length-append, Option, Some, None, Ok, Err, arith}
 use Rattle.std.specs.Option.{option_map}
-use Rattle.std.proofs.lemmas.Bool.{eqb-true}
 use Rattle.std.proofs.lemmas.List.{map-append, reverse-append}
 use Rattle.qe_halt.specs.declared.halt.Halt.{Halt}
 use Rattle.qe_halt.specs.declared.halt.Halt.TheVariants as stop
 use Rattle.qe_halt.specs.Outcome.{or_else}
 use Rattle.qe_form.specs.Formula.{Formula}
 use Rattle.qe_form.specs.Measures.{Has}
-use Rattle.qe_form.specs.Measures.{occurs}
 use Rattle.qe_tree.specs.Variables.{remaining}
 use Rattle.qe_form.specs.Making.{is_true}
 use Rattle.qe_tree.specs.Tree.{Step, Place, is_empty, unless_leaf, below, failure, is_among, nodes, leaves, or_fails, first_failure, has_true_leaf, first_places}
 use Rattle.qe_tree.specs.Sound.{Each, forms_of, IsSound}
-use Rattle.qe_form.proofs.Occurring.{occurs_is_has}
 use Rattle.qe_tree.proofs.Walks.{with_step, leaf, fails, grows, kind_of}
 use Rattle.qe_tree.proofs.Searching.{forms, forms-append, walks, children, Searching, starts, ends, skips, finds, visits, less_left, less_skipped}
 use Rattle.qe_tree.proofs.Ends as tree_ends

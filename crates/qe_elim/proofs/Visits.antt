@@ -9,7 +9,6 @@ use Rattle.qe_form.specs.declared.form.Form.{Form}
 use Rattle.qe_form.specs.Formula.{Formula}
 use Rattle.qe_form.specs.Order.{formula_cmp}
 use Rattle.qe_form.specs.Tree.{tree}
-use Rattle.qe_tree.specs.Expanded.{successors}
 use Rattle.qe_tree.specs.Tree.{Step, unless_leaf, grown, is_among}
 use Rattle.qe_tree.proofs.Walks.{with_step}
 use Rattle.qe_piece.specs.declared.maker.Next.{Next}

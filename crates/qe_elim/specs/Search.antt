@@ -44,7 +44,8 @@ entries ws = map entry_of (reverse ws)
 
 -- a successor with the steps to it
 abbrev pub entry_below : List Step → ℕ → Next Sight → Entry
-entry_below path x s = record { path = path ++ record { var = x; point = s.point } ∷ []; node = s.piece }
+entry_below path x s =
+    record { path = path ++ record { var = x; point = s.point } ∷ []; node = s.piece }
 
 -- ---- the state
 
@@ -59,7 +60,13 @@ abbrev pub fault_of : Fault → List Step × NodeStop
 fault_of f = (steps_of f.path.items, f.stop)
 
 abbrev pub state_of : Visited → List Waiting → SearchState
-state_of v ws = record { met = map tree v.met.keys; leaves = map tree v.leaves.items; fault = option_map fault_of v.fault; waiting = entries ws }
+state_of v ws =
+    record {
+      met = map tree v.met.keys;
+      leaves = map tree v.leaves.items;
+      fault = option_map fault_of v.fault;
+      waiting = entries ws;
+    }
 
 -- the formula of a leaf
 abbrev pub leaf_of : Sight → List Formula
@@ -67,14 +74,21 @@ leaf_of n = unless_leaf n.vars (n.form ∷ []) []
 
 -- the failure of a node
 abbrev pub failure_at : Entry → Option (List Step × NodeStop)
-failure_at e = option_map (λ s. (e.path, s)) (unless_leaf e.node.vars None (failure_of (expansion e.node.vars e.node.form)))
+failure_at e =
+    option_map (λ s. (e.path, s))
+    (unless_leaf e.node.vars None (failure_of (expansion e.node.vars e.node.form)))
 
--- the nodes below a node: of the variables but the one that is eliminated, those that occur are left
+-- the nodes below a node: those of the other variables are left that occur
 abbrev pub entry_at : Entry → Step × Formula → Entry
-entry_at e s = record { path = e.path ++ s.0 ∷ []; node = record { vars = remaining (others s.0.var e.node.vars) s.1; form = s.1 } }
+entry_at e s =
+    record {
+      path = e.path ++ s.0 ∷ [];
+      node = record { vars = remaining (others s.0.var e.node.vars) s.1; form = s.1 };
+    }
 
 abbrev pub entries_below : Entry → List Entry
-entries_below e = map (entry_at e) (unless_leaf e.node.vars [] (grown (expansion e.node.vars e.node.form)))
+entries_below e =
+    map (entry_at e) (unless_leaf e.node.vars [] (grown (expansion e.node.vars e.node.form)))
 
 -- the state after a visit of the node
 abbrev pub visited : Entry → SearchState → SearchState
@@ -85,22 +99,29 @@ visited e s = record {
   waiting = entries_below e ++ s.waiting;
 }
 
--- A turn passes over a formula that was met, and visits the node of any other. It ends the search where one more distinct node
--- would pass the limit, and else where the formula is True.
+-- A turn passes over a formula that was met, and visits the node of any other. It ends the search
+-- where one more distinct node would pass the limit, and else where the formula is True.
 abbrev pub IsTurn : ℕ → Entry → SearchState → SearchState → Result Bool (Halt TooManyNodes) → Type 0
-IsTurn limit e old new (Ok true) = (is_among e.node.form old.met ≡ false) × (length old.met < limit) × (is_true e.node.form ≡ true)
+IsTurn limit e old new (Ok true) =
+    (is_among e.node.form old.met ≡ false) × (length old.met < limit) × (is_true e.node.form ≡ true)
 IsTurn limit e old new (Ok false) =
     ((is_among e.node.form old.met ≡ true) × (new ≡ old))
-    ⊎ ((is_among e.node.form old.met ≡ false) × (length old.met < limit) × (is_true e.node.form ≡ false) × (new ≡ visited e old))
-IsTurn limit e old new (Err (stop.Limit many)) = (is_among e.node.form old.met ≡ false) × (limit ≤ length old.met)
+    ⊎ ((is_among e.node.form old.met ≡ false)
+    × (length old.met < limit)
+    × (is_true e.node.form ≡ false)
+    × (new ≡ visited e old))
+IsTurn limit e old new (Err (stop.Limit many)) =
+    (is_among e.node.form old.met ≡ false) × (limit ≤ length old.met)
 IsTurn limit e old new (Err stop.OutOfMemory) = Unit {0}
 
 -- ---- the end
 
--- A leaf of the tree is True; or none is and the first node that fails is told; or none is, none fails and the leaves are told. The tree has no
--- more distinct nodes than the limit, but where a leaf is True, and more where the limit is met.
+-- A leaf of the tree is True; or none is and the first node that fails is told; or none is, none
+-- fails and the leaves are told. The tree has no more distinct nodes than the limit, but where a
+-- leaf is True, and more where the limit is met.
 abbrev pub IsEnd : List ℕ → Formula → ℕ → Result Ended (Halt TooManyNodes) → Type 0
-IsEnd vars root limit (Ok ended.True) = has_true_leaf expansion vars (nodes expansion vars root) ≡ true
+IsEnd vars root limit (Ok ended.True) =
+    has_true_leaf expansion vars (nodes expansion vars root) ≡ true
 IsEnd vars root limit (Ok (ended.Failed f)) =
     (has_true_leaf expansion vars (nodes expansion vars root) ≡ false)
     × (first_failure expansion vars (nodes expansion vars root) ≡ Some (fault_of f))

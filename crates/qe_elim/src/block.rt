@@ -25,7 +25,8 @@ fn root_of(alloc: Global, kind: Kind, matrix: Form) -> Result<Form, OutOfMemory>
     requires small { count (tree matrix) < 2 ^ 50 }
     ensures exact { IfOk result (λ f. tree f ≡ spec.root (kind_of kind) (tree matrix)) }
     ensures simplified { IfOk result (λ f. IsSimplified (tree f)) }
-    ensures ready { IfOk result (λ _. IsReady IsSimplified (spec.matrix_for (kind_of kind) (tree matrix))) }
+    ensures ready { IfOk result (λ _. IsReady IsSimplified
+        (spec.matrix_for (kind_of kind) (tree matrix))) }
     ensures small { IfOk result (λ f. count (tree f) < 2 ^ 50) }
 {
     match kind {
@@ -57,7 +58,8 @@ pub fn eliminate_block(
     requires plain { IsPlain (tree matrix) }
     requires small { count (tree matrix) < 2 ^ 50 }
     ensures answer { IsBlock limit number block.now (tree matrix) result }
-    ensures ready { IfOk result (λ _. IsReady IsSimplified (spec.matrix_for block.now.kind (tree matrix))) }
+    ensures ready { IfOk result (λ _. IsReady IsSimplified
+        (spec.matrix_for block.now.kind (tree matrix))) }
 {
     let root = root_of(alloc, block.kind, matrix)?;
     match search(alloc, block.vars.items(), root, limit) {

@@ -10,7 +10,7 @@ ghost use Rattle.qe_norm.specs.Prenex.{stands_for};
 ghost use Rattle.qe_form.specs.Blocks.{bound_by};
 ghost use Rattle.qe_tree.specs.Block.{EachBlock, IsWithin};
 ghost use Rattle.qe_node.specs.Successors.{expansion};
-ghost use Rattle.qe_elim.specs.Answer.{IsAnswer, IsNoLimit};
+ghost use Rattle.qe_elim.specs.Answer.{IsElimination, IsNoLimit};
 
 use crate::block::eliminate_block;
 use crate::step::Step;
@@ -61,7 +61,7 @@ fn eliminate_blocks(alloc: Global, prenex: &Prenex, limit: u32) -> Result<Outcom
     requires short { All (λ b. length b.vars ≤ 65536) prenex.now.blocks.items }
     requires plain { IsPlain (tree prenex.now.matrix) }
     requires small { count (tree prenex.now.matrix) < 2 ^ 50 }
-    ensures answer { IsAnswer limit prenex.now.blocks.items (tree prenex.now.matrix) result }
+    ensures answer { IsElimination limit prenex.now.blocks.items (tree prenex.now.matrix) result }
     ensures same { IfOk result (λ o. Same (stands_for prenex.now) (tree o.form)) }
     ensures plain { IfOk result (λ o. IsPlain (tree o.form)) }
 {
@@ -80,13 +80,14 @@ fn eliminate_blocks(alloc: Global, prenex: &Prenex, limit: u32) -> Result<Outcom
     Ok(Outcome { form })
 }
 
-/// A formula without quantifiers that means the same as the prenex form. The blocks are eliminated from the innermost, the
-/// nodes of a block depth first; of each block at most `limit` distinct nodes are visited. Where a leaf is True it decides, also
-/// over nodes that fail.
+/// A formula without quantifiers that means the same as the prenex form. The blocks are eliminated
+/// from the innermost, the nodes of a block depth first; of each block at most `limit` distinct
+/// nodes are visited. Where a leaf is True it decides, also over nodes that fail.
 ///
-/// `Node` comes where no leaf of the block is True and a node fails. `NodeLimit` comes where one more distinct node would pass
-/// the limit and none that was visited is a True leaf. Either is told of the innermost block where it comes. The method is that
-/// of Loos and Weispfenning 1993 and of Weispfenning 1997.
+/// `Node` comes where no leaf of the block is True and a node fails. `NodeLimit` comes where one
+/// more distinct node would pass the limit and none that was visited is a True leaf. Either is told
+/// of the innermost block where it comes. The method is that of Loos and Weispfenning 1993 and of
+/// Weispfenning 1997.
 pub fn eliminate_alone(alloc: Global, prenex: &Prenex, limit: u32) -> Result<Outcome, ElimStop>
     requires distinct { IsDistinct nat_eq (bound_by prenex.now.blocks.items) }
     requires few { length prenex.now.blocks.items < 2 ^ 32 - 1 }
@@ -94,8 +95,9 @@ pub fn eliminate_alone(alloc: Global, prenex: &Prenex, limit: u32) -> Result<Out
     requires plain { IsPlain (tree prenex.now.matrix) }
     requires small { count (tree prenex.now.matrix) < 2 ^ 50 }
     requires some { 1 ≤ limit }
-    ensures answer { IsAnswer limit prenex.now.blocks.items (tree prenex.now.matrix) result }
-    ensures complete { EachBlock expansion (IsWithin expansion limit) 1 prenex.now.blocks.items (tree prenex.now.matrix) → IsNoLimit result }
+    ensures answer { IsElimination limit prenex.now.blocks.items (tree prenex.now.matrix) result }
+    ensures complete { EachBlock expansion (IsWithin expansion limit) 1 prenex.now.blocks.items
+        (tree prenex.now.matrix) → IsNoLimit result }
     ensures same { IfOk result (λ o. Same (stands_for prenex.now) (tree o.form)) }
     ensures plain { IfOk result (λ o. IsPlain (tree o.form)) }
     ensures no_quantifier { IfOk result (λ o. HasNoQuantifier (tree o.form)) }

@@ -1,5 +1,5 @@
-//! Elimination of the blocks of quantifiers of a prenex form, from the innermost, each by a search through its tree of nodes.
-//! Knows nothing of texts, nor of how a node gets its successors.
+//! Elimination of the blocks of quantifiers of a prenex form, from the innermost, each by a search
+//! through its tree of nodes. Knows nothing of texts, nor of how a node gets its successors.
 #![tactic(auto)]
 
 mod block;

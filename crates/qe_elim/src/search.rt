@@ -1,4 +1,5 @@
-//! The search through the tree of a block, depth first. A formula that was met is passed over when it comes up again.
+//! The search through the tree of a block, depth first. A formula that was met is passed over when
+//! it comes up again.
 
 ghost use Rattle.std.specs.Prelude.{◌≡◌, ◌≢◌, ◌≤◌, ◌<◌, ◌^◌, ◌++◌, length, map, false, OnOk, AllPairs};
 ghost use Rattle.std.specs.Option.{option_map};
@@ -17,7 +18,8 @@ use qe_halt::Halt;
 use qe_node::{GrowthLimit, GrowthStop, Never, Next, Node, grow, root};
 use std::alloc::Global;
 
-/// What was visited: the formulas that were met in their order, those of leaves among them, and the first node that fails.
+/// What was visited: the formulas that were met in their order, those of leaves among them, and the
+/// first node that fails.
 #[derive(Drop)]
 struct Visited {
     met: IndexSet<Form>,
@@ -51,7 +53,8 @@ fn wait_for(
     var: Var,
     list: Vec<Next<Node>>,
 ) -> Result<(), OutOfMemory>
-    ensures { OnOk result (entries waiting.new.items ≡ map (entry_below (steps_of path.now) var.0) list.items ++ entries waiting.old.items) }
+    ensures { OnOk result (entries waiting.new.items
+        ≡ map (entry_below (steps_of path.now) var.0) list.items ++ entries waiting.old.items) }
 {
     let mut left = list;
     while let Some(next) = left.pop() {
@@ -68,7 +71,8 @@ fn wait_for(
     Ok(())
 }
 
-/// Notes a leaf, or the failure of a node where it is the first; or puts its successors before the nodes that wait.
+/// Notes a leaf, or the failure of a node where it is the first; or puts its successors before the
+/// nodes that wait.
 fn branch(
     alloc: Global,
     leaves: &mut Vec<Form>,
@@ -77,22 +81,21 @@ fn branch(
     path: Vec<Step>,
     node: &Node,
 ) -> Result<(), OutOfMemory>
-    ensures leaves { OnOk result (map tree leaves.new.items ≡ map tree leaves.old.items ++ leaf_of node.now) }
-    ensures fault { OnOk result (option_map fault_of fault.new ≡ or_else (option_map fault_of fault.old) (failure_at (record { path = steps_of path.items; node = node.now }))) }
-    ensures waiting { OnOk result (entries waiting.new.items ≡ entries_below (record { path = steps_of path.items; node = node.now }) ++ entries waiting.old.items) }
+    ensures leaves { OnOk result (map tree leaves.new.items ≡ map tree leaves.old.items
+        ++ leaf_of node.now) }
+    ensures fault { OnOk result (option_map fault_of fault.new
+        ≡ or_else (option_map fault_of fault.old)
+        (failure_at (record { path = steps_of path.items; node = node.now }))) }
+    ensures waiting { OnOk result (entries waiting.new.items
+        ≡ entries_below (record { path = steps_of path.items; node = node.now })
+        ++ entries waiting.old.items) }
 {
     if node.vars.items().is_empty() {
         leaves.push(node.form.copy(alloc)?)?;
         return Ok(());
     }
     match grow(alloc, node, &mut Never) {
-        Ok(grown) => wait_for(
-            alloc,
-            waiting,
-            path.as_slice(),
-            grown.var,
-            grown.successors,
-        ),
+        Ok(grown) => wait_for(alloc, waiting, path.as_slice(), grown.var, grown.successors),
         Err(GrowthStop::Limit(GrowthLimit::Failed(stop))) => {
             if fault.is_none() {
                 *fault = Some(Fault { path, stop });
@@ -112,7 +115,9 @@ fn visit(
     node: Node,
 ) -> Result<(), OutOfMemory>
     requires { is_among node.form (map tree seen.old.met.keys) ≡ false }
-    ensures { OnOk result (state_of seen.new waiting.new.items ≡ visited (record { path = steps_of path.items; node = node }) (state_of seen.old waiting.old.items)) }
+    ensures { OnOk result (state_of seen.new waiting.new.items
+        ≡ visited (record { path = steps_of path.items; node = node })
+        (state_of seen.old waiting.old.items)) }
 {
     branch(
         alloc,
@@ -135,7 +140,8 @@ fn turn(
     waiting: &mut Vec<Waiting>,
     next: Waiting,
 ) -> Result<bool, SearchStop>
-    ensures { IsTurn limit (entry_of next) (state_of seen.old waiting.old.items) (state_of seen.new waiting.new.items) result }
+    ensures { IsTurn limit (entry_of next) (state_of seen.old waiting.old.items)
+        (state_of seen.new waiting.new.items) result }
 {
     let Waiting { path, node } = next;
     if seen.met.contains(&node.form) {
@@ -151,8 +157,9 @@ fn turn(
     Ok(false)
 }
 
-/// Searches the tree of the node of a simplified formula, with the variables that occur in it. A True leaf ends the search at
-/// once. After a node that fails the search goes on, since a True leaf decides over it.
+/// Searches the tree of the node of a simplified formula, with the variables that occur in it. A
+/// True leaf ends the search at once. After a node that fails the search goes on, since a True leaf
+/// decides over it.
 pub fn search(alloc: Global, vars: &[Var], form: Form, limit: u32) -> Result<Ended, SearchStop>
     requires distinct { AllPairs (λ x y. x ≢ y) (map (λ v. v.0) vars.now) }
     requires short { length vars.now ≤ 65536 }

@@ -3,7 +3,8 @@
 use qe_form::Var;
 use qe_node::{Node, NodeStop};
 
-/// A step of a path from the root of a tree: the variable that is eliminated, and the number of its test point, counted from 0.
+/// A step of a path from the root of a tree: the variable that is eliminated, and the number of its
+/// test point, counted from 0.
 #[derive(Clone, Copy, Debug, PartialEq, Eq)]
 pub struct Step {
     pub var: Var,

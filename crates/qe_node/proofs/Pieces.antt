@@ -4,7 +4,7 @@ use Rattle.std.proofs.lemmas.Bool.Decides.{nat_tests}
 use Rattle.qe_poly.specs.declared.monomial.Var.{Var}
 use Rattle.qe_form.specs.Formula.{Formula}
 use Rattle.std.proofs.Common.{suc, true, false, eqb, length, arith, ◌≡◌, ◌∙◌, sym, ap, refl, subst, Bool, List, [], ◌∷◌, map}
-use Rattle.qe_piece.specs.Meaning.{gives, child_of, Answers}
+use Rattle.qe_piece.specs.Meaning.{gives, child_of, GivesMeaning}
 use Rattle.qe_piece.specs.declared.maker.Next.{Next}
 use Rattle.qe_piece.specs.declared.maker.Made.{Made}
 use Rattle.qe_piece.specs.declared.maker.Made.TheVariants as made
@@ -22,14 +22,14 @@ children-shown : (list : List (Next Sight)) → map (λ s. record { point = s.0;
 children-shown [] = refl
 children-shown (n ∷ list) = ap (λ cs. record { point = n.point; key = sight_key n.piece } ∷ cs) (children-shown list)
 
-at_node : (n : Sight) (told : Bool) (r : Made Sight NodeStop) → IsExpansion (expansion_of n) told r → Answers sight_key (meaning_of n) told r
+at_node : (n : Sight) (told : Bool) (r : Made Sight NodeStop) → IsExpansion (expansion_of n) told r → GivesMeaning sight_key (meaning_of n) told r
 at_node n told (made.Successors list) is = ap by_keys is ∙ ap gives (children-shown list.items)
 at_node n told (made.Failed s) is = ap by_keys is
 at_node n told made.Stopped is = is
 at_node n told made.OutOfMemory is = is
 
-pub by_key : (n : Sight) (told : Bool) (r : Made Sight NodeStop) → IsExpansion (expansion_of n) told r → Answers sight_key (meaning_of (sight_of (sight_key n))) told r
-by_key n told r is = subst (λ m. Answers sight_key (meaning_of m) told r) (sym (sight-back n)) (at_node n told r is)
+pub by_key : (n : Sight) (told : Bool) (r : Made Sight NodeStop) → IsExpansion (expansion_of n) told r → GivesMeaning sight_key (meaning_of (sight_of (sight_key n))) told r
+by_key n told r is = subst (λ m. GivesMeaning sight_key (meaning_of m) told r) (sym (sight-back n)) (at_node n told r is)
 
 -- ---- what the methods answer, of a node by its fields
 

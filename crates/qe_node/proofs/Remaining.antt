@@ -1,11 +1,10 @@
 -- The variables of a list that pass a test, found one after another.
-use Rattle.std.proofs.Common.{◌≢◌, ◌^◌, filter, subst, ℕ, ◌+◌, ◌<◌, ◌≤◌, ◌≡◌, ◌↔◌, ◌∙◌, sym, ap, refl, Bool, true, false, cond, List, [], ◌∷◌, ◌++◌, map, length, get_or, drop, drop-cons, append_assoc, append-nil, arith}
-use Rattle.std.specs.Prelude.{IsTrue, AllPairs, eqb, not, ◌&&◌}
+use Rattle.std.proofs.Common.{◌≢◌, ◌^◌, filter, subst, ℕ, ◌<◌, ◌≤◌, ◌≡◌, ◌∙◌, sym, ap, refl, Bool, true, false, cond, List, [], ◌∷◌, map, length, arith}
+use Rattle.std.specs.Prelude.{AllPairs, eqb, not, ◌&&◌}
 use lib.Pointwise.{pointwise}
 use Rattle.std.proofs.lemmas.List.Kept.{AllPairs-filter}
-use Rattle.std.proofs.lemmas.List.{drop_all, length-map}
+use Rattle.std.proofs.lemmas.List.{length-map}
 use Rattle.std.proofs.lemmas.Bool.{eqb-true}
-use Rattle.std.proofs.Math.Numerals.{add-one}
 use Rattle.qe_poly.specs.declared.monomial.Var.{Var}
 use Rattle.qe_form.specs.Formula.{Formula}
 use Rattle.qe_form.specs.Measures.{Has, count}
@@ -20,48 +19,6 @@ use Rattle.qe_node.specs.lemmas.Piece.{filtered_short}
 -- the numbers of variables
 abbrev pub numbers : List Var → List ℕ
 numbers vs = map (λ v. v.0) vs
-
-same_test : (b c : Bool) {P : Type 0} → IsTrue b ↔ P → IsTrue c ↔ P → b ≡ c
-same_test true true h k = refl
-same_test true false h k = sym (k.1 (h.0 refl))
-same_test false true h k = h.1 (k.0 refl)
-same_test false false h k = refl
-
--- the code's answer whether a variable occurs is that of the test
-pub occurs_is : (b : Bool) (x : ℕ) (f : Formula) → IsTrue b ↔ Has x f → b ≡ occurs x f
-occurs_is b x f h = same_test b (occurs x f) h (occurs_is_has x f)
-
-numbers-push : (vs : List Var) (v : Var) → numbers (vs ++ v ∷ []) ≡ numbers vs ++ v.0 ∷ []
-numbers-push [] v = refl
-numbers-push (u ∷ vs) v = ap (λ xs. u.0 ∷ xs) (numbers-push vs v)
-
-module _ (p : ℕ → Bool) (vs : List Var) (i : ℕ) (within : i < length vs) (found : List Var) (all : List ℕ) (before : numbers found ++ filter p (numbers (drop i vs)) ≡ all) where
-  abbrev item : Var
-  item = get_or vs i (record { 0 = 0 })
-
-  abbrev rest : List ℕ
-  rest = filter p (numbers (drop (i + 1) vs))
-
-  left : (b : Bool) → p item.0 ≡ b → filter p (numbers (drop i vs)) ≡ cond b (item.0 ∷ rest) rest
-  left b test =
-      let split : drop i vs ≡ item ∷ drop (i + 1) vs = rw add-one (drop-cons vs i (record { 0 = 0 }) within) in
-      ap (λ us. filter p (numbers us)) split ∙ ap (λ b. cond b (item.0 ∷ rest) rest) test
-
-  -- one turn at a variable that passes the test
-  pub one_more : (b : Bool) (now : List Var) → b ≡ p item.0 → b ≡ true → now ≡ found ++ item ∷ [] → numbers now ++ rest ≡ all
-  one_more b now is passes pushed =
-      ap (λ us. numbers us ++ rest) pushed ∙ ap (λ xs. xs ++ rest) (numbers-push found item) ∙ append_assoc (numbers found) (item.0 ∷ []) rest
-      ∙ ap (λ xs. numbers found ++ xs) (sym (left true (sym is ∙ passes))) ∙ before
-
-  -- and at one that does not
-  pub none_more : (b : Bool) (now : List Var) → b ≡ p item.0 → b ≡ false → now ≡ found → numbers now ++ rest ≡ all
-  none_more b now is fails same =
-      ap (λ us. numbers us ++ rest) same ∙ ap (λ xs. numbers found ++ xs) (sym (left false (sym is ∙ fails))) ∙ before
-
--- the end of the loop
-pub all_found : (p : ℕ → Bool) (vs : List Var) (i : ℕ) (found : List Var) (all : List ℕ) → length vs ≤ i → numbers found ++ filter p (numbers (drop i vs)) ≡ all → numbers found ≡ all
-all_found p vs i found all past before =
-    sym (append-nil (numbers found)) ∙ ap (λ us. numbers found ++ filter p (numbers us)) (sym (drop_all i vs past)) ∙ before
 
 -- ---- variables and their numbers
 

@@ -5,7 +5,7 @@ use Rattle.qe_poly.specs.declared.monomial.Var.{Var}
 use Rattle.qe_poly.specs.Polynomial.{IsPolynomial}
 use Rattle.qe_form.specs.Formula.{Formula, And, no_more, more}
 use Rattle.qe_form.specs.Measures.{degree, count, Has}
-use Rattle.qe_form.specs.Plain.{IsPlain, IsPlainAndProper}
+use Rattle.qe_form.specs.Plain.{IsPlainAndProper}
 use Rattle.qe_form.specs.Same.{IsFree, HasNoQuantifier}
 use Rattle.qe_form.proofs.Occurring.{occurring_is_free}
 use Rattle.qe_simp.specs.Simplified.{simplified}
@@ -35,6 +35,7 @@ use Rattle.qe_tree.specs.Variables.{remaining}
 use Rattle.qe_tree.specs.Expanded.{successors}
 use Rattle.qe_tree.specs.Sound as tree
 use Rattle.qe_tree.specs.Sound.{Each, IsIn, IsFine, forms_of, IsGrown}
+use Rattle.qe_tree.proofs.Growth.{fine_plain}
 use Rattle.qe_node.specs.declared.stop.NodeStop.{NodeStop}
 use Rattle.qe_node.specs.lemmas.Piece.{chosen_in}
 use Rattle.qe_node.specs.Successors.{given_by, at_variable, at_choice, as_vars, expansion}
@@ -44,9 +45,6 @@ use Rattle.qe_node.proofs.Candidates.{IsUsable, at_candidate, successor, told, e
 use Rattle.qe_node.proofs.Tries.{guard_small, substituted_small}
 
 -- ---- fine formulas
-
-fine_plain : (f : Formula) → IsFine f → IsPlain f
-fine_plain f h = plain_weaker (λ a. IsPolynomial a.poly) (λ a. Unit {0}) (λ a k. tt) f h
 
 fine_atoms : (f : Formula) → IsFine f → EachAtom IsCanonicalAtom f
 fine_atoms f h = plain_atoms IsCanonicalAtom f h

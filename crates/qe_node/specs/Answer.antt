@@ -14,7 +14,8 @@ use Rattle.qe_node.specs.Successors.{expansion}
 abbrev pub others : ℕ → List ℕ → List ℕ
 others x vars = filter (λ y. not (eqb y x)) vars
 
--- successors with their numbers: in the formula of each those of the variables are left that occur there
+-- successors with their numbers: in the formula of each those of the variables are left that occur
+-- there
 abbrev pub below : List ℕ → List (ℕ × Formula) → List (ℕ × Sight)
 below vars parts = map (λ s. (s.0, record { vars = remaining vars s.1; form = s.1 })) parts
 
@@ -34,7 +35,8 @@ abbrev pub numbered_nodes : List (Next Sight) → List (ℕ × Sight)
 numbered_nodes list = map (λ s. (s.point, s.piece)) list
 
 -- it is the expansion; or the stop was told, or memory ran out
-abbrev pub IsExpansion : Result (List (ℕ × Sight)) NodeStop → (told : Bool) → Made Sight NodeStop → Type 0
+abbrev pub IsExpansion : Result (List (ℕ × Sight)) NodeStop → (told : Bool) → Made Sight NodeStop
+    → Type 0
 IsExpansion expanded told (made.Successors list) = expanded ≡ Ok (numbered_nodes list.items)
 IsExpansion expanded told (made.Failed s) = expanded ≡ Err s
 IsExpansion expanded told made.Stopped = told ≡ true

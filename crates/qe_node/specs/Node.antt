@@ -10,8 +10,8 @@ pub record Sight : Type 0 where
   pub vars : List ℕ
   pub form : Formula
 
--- There are at most 65,536 variables, none stands twice, and each occurs in the formula. The formula is plain, with
--- proper sets of signs, and not large.
+-- There are at most 65,536 variables, none stands twice, and each occurs in the formula. The
+-- formula is plain, with proper sets of signs, and not large.
 pub record IsNode (n : Sight) : Type 0 where
   pub distinct : AllPairs (λ x y. x ≢ y) n.vars
   pub short : length n.vars ≤ 65536

@@ -1,4 +1,5 @@
--- The successors of a node: a variable is chosen and each of its candidates tried in turn; or why the node fails.
+-- The successors of a node: a variable is chosen and each of its candidates tried in turn; or why
+-- the node fails.
 use Rattle.std.specs.Prelude.{ℕ, suc, cond, List, [], ◌∷◌, map, Option, Some, None, Result, Ok, Err}
 use Rattle.qe_poly.specs.declared.monomial.Var.{Var}
 use Rattle.qe_poly.specs.declared.limit.PolyLimit.{PolyLimit}
@@ -27,7 +28,8 @@ abbrev pub atom_of : Candidate → ℕ
 atom_of (Root f n which plus) = n
 atom_of MinusInf = 0
 
--- the stop of a substitution as that of a node, at the candidate with this number; out of memory is none of these
+-- the stop of a substitution as that of a node, at the candidate with this number; out of memory is
+-- none of these
 abbrev pub node_stop_at : ℕ → SubstStop → NodeStop
 node_stop_at n (met.At atom step polynomial) = Limit n atom step polynomial
 node_stop_at n met.TooLarge = TooLarge n
@@ -59,19 +61,23 @@ module _ (x : ℕ) (f : Formula) where
   -- a limit in the guard comes first; a False guard is skipped
   abbrev pub after_limit : ℕ → Candidate → Option PolyLimit → Tried
   after_limit n c (Some polynomial) = fails (Limit n (atom_of c) stage.Guard polynomial)
-  after_limit n c None = cond (is_false (simplified (guard x c))) skipped (put_in n (simplified (guard x c)) (point_of x c) (own c))
+  after_limit n c None =
+      cond (is_false (simplified (guard x c))) skipped
+      (put_in n (simplified (guard x c)) (point_of x c) (own c))
 
   -- what becomes of the candidate with the number n
   abbrev pub tried : ℕ → Candidate → Tried
   tried n c = after_limit n c (limit x c)
 
 -- one more successor before others
-abbrev pub before : ℕ × Formula → Result (List (ℕ × Formula)) NodeStop → Result (List (ℕ × Formula)) NodeStop
+abbrev pub before : ℕ × Formula → Result (List (ℕ × Formula)) NodeStop
+    → Result (List (ℕ × Formula)) NodeStop
 before s (Ok parts) = Ok (s ∷ parts)
 before s (Err e) = Err e
 
 -- what a candidate gives before what those after it give; nothing comes after True
-abbrev pub and_then : ℕ → Tried → Result (List (ℕ × Formula)) NodeStop → Result (List (ℕ × Formula)) NodeStop
+abbrev pub and_then : ℕ → Tried → Result (List (ℕ × Formula)) NodeStop
+    → Result (List (ℕ × Formula)) NodeStop
 and_then n (fails s) others = Err s
 and_then n skipped others = others
 and_then n (gives g) others = cond (is_true g) (Ok ((n, g) ∷ [])) (before (n, g) others)

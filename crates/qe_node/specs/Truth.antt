@@ -11,16 +11,16 @@ use Rattle.qe_piece.specs.declared.maker.Made.TheVariants as made
 use Rattle.qe_node.specs.declared.stop.NodeStop.{NodeStop}
 use Rattle.qe_node.specs.Node.{Sight}
 
--- the node's formula under `ex` of the node's variables
-abbrev pub existential : Sight → Formula
-existential n = under_ex n.vars n.form
+-- what a node stands for: its formula under `ex` of its variables
+abbrev pub node_formula : Sight → Formula
+node_formula n = under_ex n.vars n.form
 
--- At every point of numbers the node's formula is true under `ex` of its variables exactly where the formula of
--- some successor is true under `ex` of the variables of that successor.
+-- At every point of numbers the node's formula is true under `ex` of its variables exactly where
+-- the formula of some successor is true under `ex` of the variables of that successor.
 abbrev pub TruthIsKept : Sight → List (Next Sight) → Type 0
 TruthIsKept n list =
     (p : Point) → IsPoint p
-    → Is (existential n) true p ↔ Is (Or (trees_of (map (λ s. existential s.piece) list))) true p
+    → Is (node_formula n) true p ↔ Is (Or (trees_of (map (λ s. node_formula s.piece) list))) true p
 
 -- that is so where there are successors
 abbrev pub KeepsTruth : Sight → Made Sight NodeStop → Type 0

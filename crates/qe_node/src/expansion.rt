@@ -14,7 +14,9 @@ ghost use Rattle.qe_node.specs.Growth.{IsGrowth, nodes_below};
 ghost use Rattle.qe_node.specs.Truth.{KeepsTruth, TruthIsKept};
 
 use crate::trial::{Trial, try_candidate};
-use crate::{Form, GrowthLimit, GrowthStop, Node, NodeStop, OutOfMemory, Sequence, Var, Vars, root};
+use crate::{
+    Form, GrowthLimit, GrowthStop, Node, NodeStop, OutOfMemory, Sequence, Var, Vars, root,
+};
 use qe_piece::{Made, Never, Next, Stop};
 use qe_points::{Candidate, candidates, choose};
 use std::alloc::Global;
@@ -26,20 +28,13 @@ pub struct Grown {
     pub successors: Vec<Next<Node>>,
 }
 
-/// Whether the variable is another.
-fn is_other(var: Var, x: Var) -> bool
-    ensures { result ≡ not (eqb var.0 x.0) }
-{
-    var.0 != x.0
-}
-
 /// The variables other than this one, in their order.
 fn others(alloc: Global, vars: &[Var], x: Var) -> Result<Vars, OutOfMemory>
     ensures { IfOk result (λ vs. map (λ v. v.0) vs ≡ others x.0 (map (λ v. v.0) vars.now)) }
 {
     let mut left = Sequence::new(alloc);
     for var in vars {
-        if is_other(*var, x) {
+        if *var != x {
             left.push(*var)?;
         }
     }
@@ -60,7 +55,9 @@ fn try_candidates<T: Stop>(
     requires proper { IsPlainAndProper (tree form.now) }
     requires degree { degree x.0 (tree form.now) ≤ 2 }
     requires roots { All (HasRoot x.0) candidates.now }
-    ensures answer { IsGrowth (λ v. v.items) (nodes_below (map (λ v. v.0) vars.now) (given_by x.0 (tree form.now) 0 candidates.now)) (T.told stop.new) result }
+    ensures answer { IsGrowth (λ v. v.items)
+        (nodes_below (map (λ v. v.0) vars.now) (given_by x.0 (tree form.now) 0 candidates.now))
+        (T.told stop.new) result }
     ensures stays { T.told stop.old ≡ true → T.told stop.new ≡ true }
     ensures basis { T.basis stop.new ≡ T.basis stop.old }
 {
@@ -100,7 +97,10 @@ fn grow_at<T: Stop>(
     requires short { length vars.now ≤ 65536 }
     requires proper { IsPlainAndProper (tree form.now) }
     requires degree { degree x.0 (tree form.now) ≤ 2 }
-    ensures answer { IsGrowth (λ v. v.items) (nodes_below (others x.0 (map (λ v. v.0) vars.now)) (given_by x.0 (tree form.now) 0 (listed.candidates x.0 (tree form.now)))) (T.told stop.new) result }
+    ensures answer { IsGrowth (λ v. v.items)
+        (nodes_below (others x.0 (map (λ v. v.0) vars.now))
+        (given_by x.0 (tree form.now) 0 (listed.candidates x.0 (tree form.now))))
+        (T.told stop.new) result }
     ensures canonical { IfOk result (λ _. IsPlain (tree form.now) → IsFine (tree form.now)) }
     ensures stays { T.told stop.old ≡ true → T.told stop.new ≡ true }
     ensures basis { T.basis stop.new ≡ T.basis stop.old }
@@ -110,11 +110,12 @@ fn grow_at<T: Stop>(
     try_candidates(alloc, left.items(), form, x, &points, stop)
 }
 
-/// The successors of a node, with the variable that is eliminated. Of the node's variables, in their order, the first of least degree is chosen,
-/// where that degree is at most two; without one the node fails with `DegreeExcess`. All else is said of `expand`, which
-/// tells the successors alone.
+/// The successors of a node, with the variable that is eliminated. Of the node's variables, in
+/// their order, the first of least degree is chosen, where that degree is at most two; where there
+/// is none the node fails with `DegreeExcess`. The successors are those that `expand` gives.
 pub fn grow<T: Stop>(alloc: Global, node: &Node, stop: &mut T) -> Result<Grown, GrowthStop>
-    ensures answer { IsGrowth (λ g. g.successors.items) (expansion_of node.now) (T.told stop.new) result }
+    ensures answer { IsGrowth (λ g. g.successors.items) (expansion_of node.now)
+        (T.told stop.new) result }
     ensures chosen { IfOk result (λ g. choice node.now.form (as_vars node.now.vars) ≡ Some g.var) }
     ensures truth { IfOk result (λ g. TruthIsKept node.now g.successors.items) }
     ensures stays { T.told stop.old ≡ true → T.told stop.new ≡ true }
@@ -122,21 +123,22 @@ pub fn grow<T: Stop>(alloc: Global, node: &Node, stop: &mut T) -> Result<Grown, 
 {
     let vars = node.vars.items();
     let Some(var) = choose(&node.form, vars) else {
-        return Err(GrowthStop::Limit(GrowthLimit::Failed(
-            NodeStop::DegreeExcess,
-        )));
+        return Err(GrowthStop::Limit(GrowthLimit::Failed(NodeStop::DegreeExcess)));
     };
     let successors = grow_at(alloc, vars, &node.form, var, stop)?;
     Ok(Grown { var, successors })
 }
 
-/// The successors of a node. Of its variables, in their order, the first of least degree is chosen, where that degree is at most
-/// two; without one the node fails with `DegreeExcess`. The candidates of the variable are tried in turn. A limit in the guard makes
-/// the node fail, and so does a limit or too many atoms in the formula at the candidate's point. A candidate whose guard is False is
-/// skipped. The new formula is the simplified And of the guard and the formula at the point; where it is False the candidate is
-/// skipped too, and else it gives a successor with the candidate's number. The list ends after the first successor that is True.
-/// `Stopped` comes only where the stop is told when the call ends; it is asked before each candidate. At every point of numbers the
-/// node's formula is true for some values of its variables exactly where that of some successor is so for values of its own.
+/// The successors of a node. Of its variables, in their order, the first of least degree is chosen,
+/// where that degree is at most two; where there is none the node fails with `DegreeExcess`. The
+/// candidates of the variable are tried in turn. A limit in the guard makes the node fail, and so
+/// does a limit or too many atoms in the formula at the candidate's point. A candidate whose guard
+/// is False is skipped. The new formula is the simplified And of the guard and the formula at the
+/// point; where it is False the candidate is skipped too, and else it gives a successor with the
+/// candidate's number. The list ends after the first successor that is True. `Stopped` comes only
+/// where the stop is told when the call ends; it is asked before each candidate. At every point of
+/// numbers the node's formula is true for some values of its variables exactly where that of some
+/// successor is so for values of its own.
 pub fn expand<T: Stop>(alloc: Global, node: &Node, stop: &mut T) -> Made<Node>
     ensures answer { IsExpansion (expansion_of node.now) (T.told stop.new) result }
     ensures truth { KeepsTruth node.now result }

@@ -1,5 +1,5 @@
-//! Nodes of the elimination of a block of quantifiers: a formula with the variables that are to be eliminated from it.
-//! Knows nothing of the tree of a block's nodes.
+//! Nodes of the elimination of a block of quantifiers: a formula with the variables that are to be
+//! eliminated from it. Knows nothing of the tree of a block's nodes.
 #![tactic(auto)]
 
 mod expansion;

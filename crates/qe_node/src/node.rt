@@ -10,9 +10,10 @@ use crate::{Form, Var, Vars};
 use std::hash::{Hash, Hasher};
 use std::marker::Model;
 
-/// A formula with the variables of a block that are to be eliminated from it, in the order of the block. It is plain, with sets
-/// of signs that are neither empty nor full, and has fewer than 2^50 atoms and constants. There are at most 65,536 variables; none
-/// stands twice, and each occurs in the formula. A node without variables is a leaf.
+/// A formula with the variables of a block that are to be eliminated from it, in the order of the
+/// block. It is plain, with sets of signs that are neither empty nor full, and has fewer than 2^50
+/// atoms and constants. There are at most 65,536 variables; none stands twice, and each occurs in
+/// the formula. A node without variables is a leaf.
 #[derive(Drop)]
 pub struct Node {
     pub vars: Vars,

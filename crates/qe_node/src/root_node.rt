@@ -11,7 +11,8 @@ use std::alloc::Global;
 
 /// Those of the variables that occur in a formula, in their order.
 fn remaining(alloc: Global, vars: &[Var], form: &Form) -> Result<Vars, OutOfMemory>
-    ensures { IfOk result (λ vs. map (λ v. v.0) vs ≡ remaining (map (λ v. v.0) vars.now) (tree form.now)) }
+    ensures { IfOk result (λ vs. map (λ v. v.0) vs
+        ≡ remaining (map (λ v. v.0) vars.now) (tree form.now)) }
 {
     let mut left = Sequence::new(alloc);
     for var in vars {
@@ -22,9 +23,10 @@ fn remaining(alloc: Global, vars: &[Var], form: &Form) -> Result<Vars, OutOfMemo
     Ok(left)
 }
 
-/// The node of a formula: with those of the variables that occur in it, in their order. The variables are distinct, and at most
-/// 65,536; the formula is plain, with sets of signs that are neither empty nor full, and has fewer than 2^50 atoms and constants.
-/// `Err` only where memory runs out.
+/// The node of a formula: with those of the variables that occur in it, in their order. The
+/// variables are distinct, and at most 65,536; the formula is plain, with sets of signs that are
+/// neither empty nor full, and has fewer than 2^50 atoms and constants. `Err` only where memory
+/// runs out.
 pub fn root(alloc: Global, vars: &[Var], form: Form) -> Result<Node, OutOfMemory>
     requires distinct { AllPairs (λ x y. x ≢ y) (map (λ v. v.0) vars.now) }
     requires short { length vars.now ≤ 65536 }

@@ -8,15 +8,16 @@ use qe_halt::Halt;
 pub enum NodeStop {
     /// The degree in each of its variables is over 2.
     DegreeExcess,
-    /// At the candidate with the number `point`, counted from 0, an operation on polynomials met a limit: in this stage, at
-    /// the atom of the node's formula with this number, counted from 0.
+    /// At the candidate with the number `point`, counted from 0, an operation on polynomials met a
+    /// limit: in this stage, at the atom of the node's formula with this number, counted from 0.
     Limit {
         point: u64,
         atom: u64,
         stage: Stage,
         limit: PolyLimit,
     },
-    /// At the candidate with the number `point` the formula would have more than 65,536 atoms and constants.
+    /// At the candidate with the number `point` the formula would have more than 65,536 atoms and
+    /// constants.
     TooLarge {
         point: u64,
     },

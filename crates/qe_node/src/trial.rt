@@ -22,7 +22,8 @@ pub enum Trial {
     Given(Form),
 }
 
-/// The stop of a guard or a substitution as that of the node, at the candidate with this number; `Err` where memory ran out.
+/// The stop of a guard or a substitution as that of the node, at the candidate with this number;
+/// `Err` where memory ran out.
 fn stopped(stop: SubstStop, point: u64) -> Result<Trial, OutOfMemory>
     ensures memory { IfOk result (λ _. stop ≢ SubstStop.OutOfMemory) }
     ensures stop { IfOk result (λ t. trial_of t ≡ fails (node_stop_at point stop)) }
@@ -75,7 +76,9 @@ fn put_in(
     requires degree { degree x.0 (tree form.now) ≤ 2 }
     requires proper { IsPlainAndProper (tree form.now) }
     requires guard { HasFitGuard found }
-    ensures exact { IfOk result (λ t. trial_of t ≡ put_in x.0 (tree form.now) number (tree found.guard) found.point (option_copied own.entry)) }
+    ensures exact { IfOk result (λ t. trial_of t
+        ≡ put_in x.0 (tree form.now) number (tree found.guard) found.point
+        (option_copied own.entry)) }
     ensures fit { IfOk result GivesFit }
 {
     let GuardedPoint { guard, point } = found;

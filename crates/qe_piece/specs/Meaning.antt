@@ -24,9 +24,9 @@ Descends height bound (fails fault) = Unit {0}
 abbrev pub child_of : {N : Type 0} → (N → List ℕ) → Next N → Child
 child_of key next = record { point = next.point; key = key next.piece }
 
--- the answer is the meaning, or that the stop was told, or out of memory
-abbrev pub Answers : {N F : Type 0} → (N → List ℕ) → Meaning F → Bool → Made N F → Type 0
-Answers key meaning told (Successors list) = meaning ≡ gives (map (child_of key) list.items)
-Answers key meaning told (Failed fault) = meaning ≡ fails fault
-Answers key meaning told Stopped = told ≡ true
-Answers key meaning told OutOfMemory = Unit {0}
+-- the successors or the failure that the meaning tells; or the stop was told, or memory ran out
+abbrev pub GivesMeaning : {N F : Type 0} → (N → List ℕ) → Meaning F → Bool → Made N F → Type 0
+GivesMeaning key meaning told (Successors list) = meaning ≡ gives (map (child_of key) list.items)
+GivesMeaning key meaning told (Failed fault) = meaning ≡ fails fault
+GivesMeaning key meaning told Stopped = told ≡ true
+GivesMeaning key meaning told OutOfMemory = Unit {0}

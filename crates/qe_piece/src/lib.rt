@@ -1,5 +1,5 @@
-//! What a machine over nodes asks of a node, of the maker of its successors and of the one who may stop it.
-//! Knows no formulas, no machine and no threads.
+//! What a machine over nodes asks of a node, of the maker of its successors and of the one who may
+//! stop it. Knows no formulas, no machine and no threads.
 #![tactic(auto)]
 
 mod maker;

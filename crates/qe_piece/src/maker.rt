@@ -1,7 +1,7 @@
 //! The maker of successors.
 
 ghost use Rattle.std.specs.Prelude.{◌≡◌, true, false};
-ghost use Rattle.qe_piece.specs.Meaning.{Answers};
+ghost use Rattle.qe_piece.specs.Meaning.{GivesMeaning};
 
 use crate::piece::Piece;
 use crate::stop::Stop;
@@ -25,17 +25,18 @@ pub enum Made<N: Piece> {
     Failed(N::Fault),
     /// The stop was told first.
     Stopped,
-    /// There was no memory.
+    /// Memory ran out.
     OutOfMemory,
 }
 
 /// One who makes the successors of a piece.
 pub trait Maker<N: Piece> {
-    /// The meaning of a piece that is no leaf: its successors, or its failure. Or `Stopped`, only where the stop is told
-    /// when the call ends, or `OutOfMemory`.
+    /// The meaning of a piece that is no leaf: its successors, or its failure. In place of either
+    /// `Stopped` may come, only where the stop is told when the call ends, and `OutOfMemory`, where
+    /// memory runs out.
     fn expand<T: Stop>(&self, alloc: Global, piece: &N, stop: &mut T) -> Made<N>
         requires { N.leaf (N.key piece.now) ≡ false }
-        ensures answer { Answers N.key (N.meaning (N.key piece.now)) (T.told stop.new) result }
+        ensures answer { GivesMeaning N.key (N.meaning (N.key piece.now)) (T.told stop.new) result }
         ensures stays { T.told stop.old ≡ true → T.told stop.new ≡ true }
         ensures basis { T.basis stop.new ≡ T.basis stop.old };
 }

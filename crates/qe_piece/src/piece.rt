@@ -6,8 +6,9 @@ ghost use Rattle.qe_piece.specs.Meaning.{Meaning, Descends};
 use std::alloc::{AllocError, Global};
 use std::hash::Hash;
 
-/// A node of a search. Its key tells it from others: pieces with one key are one node. All else that is known of a piece
-/// is a function of its key. Equal keys hash alike, since equality is that of the keys.
+/// A node of a search. Its key tells it from others: pieces with one key are one node. All else
+/// that is known of a piece is a function of its key. Equal keys hash alike, since equality is that
+/// of the keys.
 pub trait Piece: Eq + Hash + Drop {
     /// Why a piece has no successors to give.
     type Fault: Drop;
@@ -15,7 +16,8 @@ pub trait Piece: Eq + Hash + Drop {
     /// A list of numbers that tells the piece from others.
     ghost key: { Self → List ℕ };
 
-    /// The successors of the piece with this key, in order, or why it fails. A leaf is asked for none.
+    /// The successors of the piece with this key, in order, or why it fails. A leaf is asked for
+    /// none.
     ghost meaning: { List ℕ → Meaning Self.Fault };
 
     /// Whether the piece with this key is a leaf.

@@ -10,7 +10,8 @@ use Rattle.qe_simp.specs.declared.merge.Joined as merge
 use Rattle.qe_simp.specs.declared.merge.Joined.TheVariants.{One, Two}
 use Rattle.qe_simp.specs.Simplified.{as_one}
 
--- g is true and false at the points where f is so, has no further free variable, and has at most as many atoms and constants, or one
+-- g is true and false at the points where f is so, has no further free variable, and has at most as
+-- many atoms and constants, or one
 pub record Keeps (f g : Formula) : Type 0 where
   pub agree : (p : Point) → IsPoint p → Agree f g p
   pub free : (x : ℕ) → IsFree x g → IsFree x f

@@ -8,7 +8,8 @@ use Rattle.qe_form.specs.Formula.{Formula, Formulas, True, False, Atom, And, Or,
 use Rattle.qe_form.specs.Plain.{IsPlainWith}
 use Rattle.qe_simp.specs.Simplified.{simplified}
 
--- a canonical polynomial that is no number and its own primitive polynomial, with a positive leading coefficient
+-- a canonical polynomial that is no number and its own primitive polynomial, with a positive
+-- leading coefficient
 pub record IsPrimitive (p : Polynomial) : Type 0 where
   pub canonical : IsPolynomial p
   pub no_number : (c : ℤ) → p ≢ constant c

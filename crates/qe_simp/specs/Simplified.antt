@@ -23,9 +23,14 @@ use Rattle.qe_simp.specs.declared.connective.Connective.TheVariants.{Conjunction
 abbrev pub as_number : Polynomial → Option ℤ
 as_number p = cond (poly_eq p (constant (coefficient p []))) (Some (coefficient p [])) None
 
--- the atom on the primitive polynomial, with the signs of the negatives where the leading coefficient is negative
+-- the atom on the primitive polynomial, with the signs of the negatives where the leading
+-- coefficient is negative
 abbrev pub primitive_atom : atom.Atom → atom.Atom
-primitive_atom a = record { poly = primitive a.poly; signs = cond (leads_negative a.poly) (mirror a.signs) a.signs }
+primitive_atom a =
+    record {
+      poly = primitive a.poly;
+      signs = cond (leads_negative a.poly) (mirror a.signs) a.signs;
+    }
 
 -- an atom on a number is true or false by the number's sign
 abbrev pub on_number : atom.Atom → Option ℤ → Formula
@@ -34,7 +39,9 @@ on_number a (Some c) = truth (has_sign a.signs (int_sign c))
 
 -- no sign is false, and all signs are true
 abbrev pub simplified_atom : atom.Atom → Formula
-simplified_atom a = cond (eqb (bits a.signs) 0) False (cond (eqb (bits a.signs) 7) True (on_number a (as_number a.poly)))
+simplified_atom a =
+    cond (eqb (bits a.signs) 0) False
+    (cond (eqb (bits a.signs) 7) True (on_number a (as_number a.poly)))
 
 -- ---- the parts of an And, a conjunction, or an Or, a disjunction
 
@@ -63,7 +70,8 @@ abbrev pub listed : Formulas → List Formula
 listed no_more = []
 listed (more f fs) = f ∷ listed fs
 
--- a formula among the parts: its own parts where it has the same connective, none where it changes nothing
+-- a formula among the parts: its own parts where it has the same connective, none where it changes
+-- nothing
 abbrev pub parts_in : Connective → Formula → List Formula
 parts_in Conjunction True = []
 parts_in Conjunction (And fs) = listed fs
@@ -81,9 +89,12 @@ abbrev pub in_order : List Formula → List Formula
 in_order [] = []
 in_order (f ∷ fs) = insert f (in_order fs)
 
--- two parts as one: atoms on one polynomial with the signs that they have together, and equal formulas
+-- two parts as one: atoms on one polynomial with the signs that they have together, and equal
+-- formulas
 abbrev pub as_one : Connective → Formula → Formula → Option Formula
-as_one k (Atom a) (Atom b) = cond (poly_eq a.poly b.poly) (Some (Atom (record { poly = a.poly; signs = joined_signs k a.signs b.signs }))) None
+as_one k (Atom a) (Atom b) =
+    cond (poly_eq a.poly b.poly)
+    (Some (Atom (record { poly = a.poly; signs = joined_signs k a.signs b.signs }))) None
 as_one k f g = cond (is_eq (formula_cmp f g)) (Some f) None
 
 abbrev pub one_or_two : Option Formula → (Formula → List Formula) → List Formula → List Formula
@@ -93,7 +104,8 @@ one_or_two (Some f) one two = one f
 -- a part and those after it, where neighbours that are one part are made one
 abbrev pub merged_from : Connective → Formula → List Formula → List Formula
 merged_from k f [] = f ∷ []
-merged_from k f (g ∷ gs) = one_or_two (as_one k f g) (λ h. merged_from k h gs) (f ∷ merged_from k g gs)
+merged_from k f (g ∷ gs) =
+    one_or_two (as_one k f g) (λ h. merged_from k h gs) (f ∷ merged_from k g gs)
 
 abbrev pub merged_parts : Connective → List Formula → List Formula
 merged_parts k [] = []

@@ -33,8 +33,9 @@ fn mirrored_if(is_negated: bool, signs: Signs) -> Signs
     if is_negated { signs.mirror() } else { signs }
 }
 
-/// The simplified form of an atom: true or false on a number, false with no sign, true with all of them; else the atom on
-/// the primitive polynomial, with the signs of the negatives where that was negated.
+/// The simplified form of an atom: true or false on a number, false with no sign, true with all of
+/// them; else the atom on the primitive polynomial, with the signs of the negatives where that was
+/// negated.
 pub fn simplify_atom(alloc: Global, atom: Atom) -> Result<Form, OutOfMemory>
     ensures exact { IfOk result (λ f. tree f ≡ simplified_atom atom) }
     ensures canonical { IfOk result (λ _. IsCanonicalAtom atom) }

@@ -58,7 +58,8 @@ impl Connective {
         }
     }
 
-    /// Whether a part decides for the whole: the deciding constant, or an atom that no sign, or each sign, fits.
+    /// Whether a part decides for the whole: the deciding constant, or an atom that no sign, or
+    /// each sign, fits.
     pub fn is_decided_by(self, part: &Form) -> bool
         ensures { result ≡ decides self (tree part.now) }
     {
@@ -68,9 +69,11 @@ impl Connective {
         }
     }
 
-    /// Adds a formula to the parts: its own parts where it has this connective, nothing where it changes nothing.
+    /// Adds a formula to the parts: its own parts where it has this connective, nothing where it
+    /// changes nothing.
     pub fn add_to(self, parts: &mut Vec<Form>, form: Form) -> Result<(), OutOfMemory>
-        ensures { OnOk result (map tree parts.new.items ≡ map tree parts.old.items ++ parts_in self (tree form)) }
+        ensures { OnOk result (map tree parts.new.items ≡ map tree parts.old.items
+            ++ parts_in self (tree form)) }
     {
         match self {
             Connective::Conjunction => add_conjuncts(parts, form),
@@ -117,7 +120,8 @@ fn is_always_true(part: &Form) -> bool
 
 /// Adds the parts of an And, nothing for true, and any other formula itself.
 fn add_conjuncts(parts: &mut Vec<Form>, form: Form) -> Result<(), OutOfMemory>
-    ensures { OnOk result (map tree parts.new.items ≡ map tree parts.old.items ++ parts_in Connective.Conjunction (tree form)) }
+    ensures { OnOk result (map tree parts.new.items ≡ map tree parts.old.items
+        ++ parts_in Connective.Conjunction (tree form)) }
 {
     match form {
         Form::True => Ok(()),
@@ -134,7 +138,8 @@ fn add_conjuncts(parts: &mut Vec<Form>, form: Form) -> Result<(), OutOfMemory>
 
 /// Adds the parts of an Or, nothing for false, and any other formula itself.
 fn add_disjuncts(parts: &mut Vec<Form>, form: Form) -> Result<(), OutOfMemory>
-    ensures { OnOk result (map tree parts.new.items ≡ map tree parts.old.items ++ parts_in Connective.Disjunction (tree form)) }
+    ensures { OnOk result (map tree parts.new.items ≡ map tree parts.old.items
+        ++ parts_in Connective.Disjunction (tree form)) }
 {
     match form {
         Form::False => Ok(()),

@@ -15,7 +15,8 @@ use crate::merge::merge;
 use qe_form::{Form, Forms};
 use std::alloc::Global;
 
-/// The formula that the parts are: the neutral constant, one part, or the parts under the connective.
+/// The formula that the parts are: the neutral constant, one part, or the parts under the
+/// connective.
 fn unite(mut parts: Vec<Form>, connective: Connective) -> Form
     ensures { tree result ≡ united connective (map tree parts.items) }
 {
@@ -46,7 +47,8 @@ fn join_parts(
     mut parts: Vec<Form>,
     connective: Connective,
 ) -> Result<Form, OutOfMemory>
-    ensures { IfOk result (λ f. tree f ≡ decided connective (merged_parts connective (in_order (map tree parts.items)))) }
+    ensures { IfOk result (λ f. tree f ≡ decided connective
+        (merged_parts connective (in_order (map tree parts.items)))) }
 {
     parts.sort()?;
     Ok(decide(merge(alloc, parts, connective)?, connective))
@@ -78,10 +80,12 @@ fn simplified_form(alloc: Global, form: Form) -> Result<Form, OutOfMemory>
     }
 }
 
-/// The simplified formulas as parts under a connective. The atoms that were simplified are on canonical polynomials.
+/// The simplified formulas as parts under a connective. The atoms that were simplified are on
+/// canonical polynomials.
 #[cycle(simplify)]
 fn gather(alloc: Global, forms: Forms, connective: Connective) -> Result<Vec<Form>, OutOfMemory>
-    ensures exact { IfOk result (λ v. map tree v.items ≡ flat_map (parts_in connective) (simplified_each (trees forms))) }
+    ensures exact { IfOk result (λ v. map tree v.items
+        ≡ flat_map (parts_in connective) (simplified_each (trees forms))) }
     ensures canonical { IfOk result (λ _. EachAtomOf IsCanonicalAtom (trees forms)) }
 {
     let mut parts = Vec::new(alloc);
@@ -92,12 +96,13 @@ fn gather(alloc: Global, forms: Forms, connective: Connective) -> Result<Vec<For
     Ok(parts)
 }
 
-/// The simplified form. Atoms with no sign or with all of them, or on numbers, become constants; other atoms are made
-/// primitive with a positive leading coefficient. And and Or take in the parts of parts with their own connective; a part
-/// that decides leaves its constant; constants that change nothing and repeated parts go; atoms on one polynomial become
-/// one, with the signs in both for And and in either for Or; the rest stands in the order of formulas, and a list of one is
-/// its part. Formulas with other connectives stay as they are, and so does a form that is simplified already. `Err` only
-/// where memory runs out.
+/// The simplified form. Atoms with no sign or with all of them, or on numbers, become constants;
+/// other atoms are made primitive with a positive leading coefficient. And and Or take in the parts
+/// of parts with their own connective; a part that decides leaves its constant; constants that
+/// change nothing and repeated parts go; atoms on one polynomial become one, with the signs in both
+/// for And and in either for Or; the rest stands in the order of formulas, and a list of one is its
+/// part. Formulas with other connectives stay as they are, and so does a form that is simplified
+/// already. `Err` only where memory runs out.
 pub fn simplify(alloc: Global, form: Form) -> Result<Form, OutOfMemory>
     ensures exact { IfOk result (λ f. tree f ≡ simplified (tree form)) }
     ensures kept { IfOk result (λ f. Keeps (tree form) (tree f)) }

@@ -1,5 +1,5 @@
-//! The simplifier: atoms on one polynomial become one by their sets of signs, constants and repeated parts go, and the parts
-//! stand in order. Knows nothing of elimination.
+//! The simplifier: atoms on one polynomial become one by their sets of signs, constants and
+//! repeated parts go, and the parts stand in order. Knows nothing of elimination.
 #![tactic(auto)]
 
 mod atom;

@@ -46,7 +46,8 @@ fn join(connective: Connective, last: Form, next: Form) -> Joined
 
 /// Adds a part to merged parts: as one with the last of them where they are one part.
 fn put(parts: &mut Vec<Form>, part: Form, connective: Connective) -> Result<(), OutOfMemory>
-    ensures { OnOk result ((fs : List Formula) → map tree parts.old.items ≡ merged_parts connective fs
+    ensures { OnOk result ((fs : List Formula)
+        → map tree parts.old.items ≡ merged_parts connective fs
         → map tree parts.new.items ≡ merged_parts connective (fs ++ tree part ∷ [])) }
 {
     let Some(last) = parts.pop() else {

@@ -1,4 +1,5 @@
--- The key of a node: its variables and its formula as one list of numbers, from which both are read back.
+-- The key of a node: its variables and its formula as one list of numbers, from which both are read
+-- back.
 use Rattle.std.specs.Prelude.{ℕ, suc, zero, ℤ, pos, negsuc, Bool, true, false, not, eqb, List, [], ◌∷◌, ◌++◌}
 use Rattle.qe_poly.specs.declared.monomial.Power.{Power}
 use Rattle.qe_poly.specs.Polynomial.{Term}
@@ -84,7 +85,8 @@ abbrev pub power_nest : Power → Nest
 power_nest a = two (one a.var.0) (one a.exponent)
 
 abbrev pub power_in : Nest → Power
-power_in s = record { var = record { 0 = number_in (left_in s) }; exponent = number_in (right_in s) }
+power_in s =
+    record { var = record { 0 = number_in (left_in s) }; exponent = number_in (right_in s) }
 
 abbrev pub term_nest : Term → Nest
 term_nest t = two (list_nest power_nest t.0) (integer_nest t.1)
@@ -98,7 +100,12 @@ abbrev pub signs_nest : Signs → Nest
 signs_nest s = two (bool_nest s.minus) (two (bool_nest s.zero) (bool_nest s.plus))
 
 abbrev pub signs_in : Nest → Signs
-signs_in s = record { plus = bool_in (right_in (right_in s)); zero = bool_in (left_in (right_in s)); minus = bool_in (left_in s) }
+signs_in s =
+    record {
+      plus = bool_in (right_in (right_in s));
+      zero = bool_in (left_in (right_in s));
+      minus = bool_in (left_in s);
+    }
 
 abbrev pub atom_nest : atom.Atom → Nest
 atom_nest a = two (list_nest term_nest a.poly) (signs_nest a.signs)
@@ -106,7 +113,7 @@ atom_nest a = two (list_nest term_nest a.poly) (signs_nest a.signs)
 abbrev pub atom_in : Nest → atom.Atom
 atom_in s = record { poly = list_in term_in (left_in s); signs = signs_in (right_in s) }
 
--- ---- formulas: a pair of the kind, with what it holds beside formulas, and of the list of its parts
+-- ---- formulas: a pair of the kind, with what it holds beside formulas, and the list of its parts
 
 abbrev mutual
   pub formula_nest : Formula → Nest
@@ -140,8 +147,10 @@ of_parts (suc zero) fs = False
 of_parts (suc (suc zero)) fs = And fs
 of_parts (suc (suc (suc zero))) fs = Or fs
 of_parts (suc (suc (suc (suc zero)))) fs = Not (first_part fs)
-of_parts (suc (suc (suc (suc (suc zero))))) fs = Implies (first_part fs) (first_part (other_parts fs))
-of_parts (suc (suc (suc (suc (suc (suc n)))))) fs = Iff (first_part fs) (first_part (other_parts fs))
+of_parts (suc (suc (suc (suc (suc zero))))) fs =
+    Implies (first_part fs) (first_part (other_parts fs))
+of_parts (suc (suc (suc (suc (suc (suc n)))))) fs =
+    Iff (first_part fs) (first_part (other_parts fs))
 
 -- of a kind that holds an atom or a variable too
 abbrev pub of_more : ℕ → Nest → Formulas → Formula

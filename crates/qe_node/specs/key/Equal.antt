@@ -9,7 +9,8 @@ use lib.Pointwise.{pointwise}
 
 -- the same variables in the same order, and equal formulas
 abbrev pub same_sight : Sight → Sight → Bool
-same_sight = eq_of_both (on (λ n. n.vars) (pointwise eqb)) (on (λ n. n.form) (eq_by_cmp formula_cmp))
+same_sight =
+    eq_of_both (on (λ n. n.vars) (pointwise eqb)) (on (λ n. n.form) (eq_by_cmp formula_cmp))
 
 -- the number of variables, each of them, and then the formula
 abbrev pub sight_fed : Sight → fed.HashWrites

@@ -1,5 +1,5 @@
 -- What holds of nodes as pieces: only a leaf is true, and a successor has fewer variables.
-use Rattle.std.specs.Prelude.{◌≡◌, refl, ℕ, ◌<◌, ◌≤◌, Bool, true, false, not, ◌&&◌, eqb, cond, List, [], ◌∷◌, filter, map, length, Option, Some, None, Result, Ok, Err}
+use Rattle.std.specs.Prelude.{◌≡◌, refl, ℕ, ◌<◌, ◌≤◌, Bool, true, false, not, eqb, cond, List, [], ◌∷◌, filter, map, length, Option, Some, None, Result, Ok, Err}
 use Rattle.std.specs.List.{All}
 use Rattle.std.proofs.Common.{ap, sym, subst, inl, inr, arith}
 use Rattle.std.proofs.lemmas.List.Elements.{All-nil, All-cons}
@@ -36,11 +36,11 @@ filtered_short p (x ∷ xs) = by (filtered_short p xs) (p x)
     by rest true = omega arith
     by rest false = omega arith
 
-fewer : (x : ℕ) (xs : List ℕ) → IsIn x xs → length (others x xs) < length xs
-fewer x [] h = absurd h
-fewer x (y ∷ ys) h = elim h [
+others_fewer : (x : ℕ) (xs : List ℕ) → IsIn x xs → length (others x xs) < length xs
+others_fewer x [] h = absurd h
+others_fewer x (y ∷ ys) h = elim h [
   | inl same ↦ subst (λ b. length (cond (not b) (y ∷ others x ys) (others x ys)) < length (y ∷ ys)) (sym (eq-eqb y x (sym same))) (let most = filtered_short (λ z. not (eqb z x)) ys in omega arith)
-  | inr later ↦ by (fewer x ys later) (not (eqb y x))
+  | inr later ↦ by (others_fewer x ys later) (not (eqb y x))
 ]
   where
     by : length (others x ys) < length ys → (b : Bool) → length (cond b (y ∷ others x ys) (others x ys)) < length (y ∷ ys)
@@ -81,7 +81,7 @@ descends_at vars f None is = tt
 descends_at vars f (Some v) is = by (given_by v.0 f 0 (candidates v.0 f))
   where
     by : (r : Result (List (ℕ × Formula)) NodeStop) → Descends height (length vars) (by_keys (with_nodes vars (at_variable v.0 r)))
-    by (Ok parts) = each_less (others v.0 vars) (length vars) (fewer v.0 vars (chosen_in f vars v is)) parts
+    by (Ok parts) = each_less (others v.0 vars) (length vars) (others_fewer v.0 vars (chosen_in f vars v is)) parts
     by (Err s) = tt
 
 pub descends : (k : List ℕ) → is_leaf_node (sight_of k) ≡ false → Descends height (height k) (meaning_of (sight_of k))

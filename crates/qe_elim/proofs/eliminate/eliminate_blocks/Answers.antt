@@ -5,7 +5,7 @@ use Rattle.qe_form.specs.Plain.{IsPlain}
 use Rattle.qe_simp.proofs.Shapes.{simplified_is_plain}
 use Rattle.qe_form.specs.Blocks.{under_blocks}
 use Rattle.qe_tree.proofs.Stands.{Stands, stands_same}
-use Rattle.qe_elim.specs.Answer.{IsAnswer}
+use Rattle.qe_elim.specs.Answer.{IsElimination}
 use Rattle.qe_elim.proofs.Alone.{IsEliminated, block_distinct, block_more, more_small, block_stops, block_at}
 use Rattle.qe_elim.proofs.eliminate.eliminate_blocks.Goals as goal
 
@@ -28,7 +28,7 @@ returns-in_err-form-2-clause-answer c =
     let last : suc k ≡ c.loop-left.left = omega arith in
     let number : k + 1 ≡ suc k = omega arith in
     let few : c.args.limit < 2 ^ 32 = omega arith in
-    subst (λ r. IsAnswer c.args.limit bs m r) (sym (exit.1 ∙ ap Err exit.2))
+    subst (λ r. IsElimination c.args.limit bs m r) (sym (exit.1 ∙ ap Err exit.2))
     (block_stops m c.args.limit few bs k c.index.result.now _
     (block_at c.args.prenex.now.blocks.items k c.index.result.now (omega arith) c.index.ensures) (tree c.loop-left.form)
     (subst (λ n. IsEliminated m c.args.limit bs n (tree c.loop-left.form)) (sym last) c.loop-left.invariant.done)
