@@ -7,7 +7,7 @@ use Rattle.qe_board.specs.declared.event.Event.{Event}
 use Rattle.qe_board.specs.declared.event.Event.TheVariants.{Take, Give, Fail, Drop, Cancel, Fill, Starve}
 use Rattle.qe_board.specs.declared.event.Stopping.{Stopping}
 use Rattle.qe_board.specs.declared.event.Stopping.TheVariants.{Unset, Truth, Limit, Memory}
-use Rattle.qe_board.specs.State.{Key, IsIn, Distinct, Link, Condition, waiting, held, expanded, leaf, failed, dropped, Entry, State, is_waiting, is_held_by, is_unset, keys, at, has_true_leaf}
+use Rattle.qe_board.specs.State.{Key, IsAmong, Distinct, Link, Condition, waiting, held, expanded, leaf, failed, dropped, Entry, State, is_waiting, is_held_by, is_unset, keys, at, has_true_leaf}
 use Rattle.qe_board.specs.Machine.{new_keys, put, drop_waiting, waits_first, holds, opening_entry, opened, child_keys, grown_keys, links, fits, meaning_at, gives_and, does_fail, is_enabled, given, failing, effect, IsRunFrom, replay_from}
 use Rattle.qe_board.specs.Tree.{Spot, spots, nodes, Falls}
 use Rattle.qe_board.specs.Kept.{AreLinks, IsFit, AreFit}
@@ -34,7 +34,7 @@ module _ {F : Type 0} (meaning : Key → Meaning F) (is_leaf truth : Key → Boo
 
   pub record IsSound (root : Key) (s : State F) : Type 0 where
     pub fit : AllFit (keys s) (is_unset s.stop) s.entries
-    pub root_in : IsIn root (keys s)
+    pub root_in : IsAmong root (keys s)
     pub distinct : Distinct (keys s)
     pub within : Within (keys s) (spot_keys (spots meaning is_leaf truth height root))
     pub few : length (keys s) ≤ limit
@@ -138,7 +138,7 @@ module _ {F : Type 0} (meaning : Key → Meaning F) (is_leaf truth : Key → Boo
     there : slice_get es n ≡ Some entry
     passes : q entry.condition ≡ true
     fit : Fit ks b entry.condition entry.key
-    inside : IsIn entry.key (entry_keys es)
+    inside : IsAmong entry.key (entry_keys es)
 
   found : (q : Condition F → Bool) (ks : List Key) (b : Bool) (n : ℕ) (es : List (Entry F)) → AllFit ks b es → at q n es ≡ true → Found q ks b n es
   found q ks b n [] fit there = absurd (cc)
@@ -160,7 +160,7 @@ module _ {F : Type 0} (meaning : Key → Meaning F) (is_leaf truth : Key → Boo
       → IsSound root (record { entries = es; stop = t })
   same_keys root s sound es t same fit beyond = record {
     fit = subst (λ ks. AllFit ks (is_unset t) es) (sym same) fit;
-    root_in = subst (IsIn root) (sym same) sound.root_in;
+    root_in = subst (IsAmong root) (sym same) sound.root_in;
     distinct = subst Distinct (sym same) sound.distinct;
     within = subst (λ ks. Within ks (spot_keys (spots meaning is_leaf truth height root))) (sym same) sound.within;
     few = subst (λ ks. length ks ≤ limit) (sym same) sound.few;
@@ -182,11 +182,11 @@ module _ {F : Type 0} (meaning : Key → Meaning F) (is_leaf truth : Key → Boo
     tree_keys = spot_keys (spots meaning is_leaf truth height root)
 
     -- the successors of an entry are pieces of the tree
-    children_within : (s : State F) → IsSound root s → (k : Key) (cs : List Child) → IsIn k (keys s) → is_leaf k ≡ false → meaning k ≡ gives cs → Within (keys_of cs) tree_keys
+    children_within : (s : State F) → IsSound root s → (k : Key) (cs : List Child) → IsAmong k (keys s) → is_leaf k ≡ false → meaning k ≡ gives cs → Within (keys_of cs) tree_keys
     children_within s sound k cs inside inner is x i =
         spots_closed meaning is_leaf truth height falls root k (sound.within k inside) x
-        (subst (λ m. IsIn x (map (λ c. c.key) (cond (is_leaf k) [] (elim m as (λ n. List Child) [ gives ds ↦ ds | fails f ↦ [] ])))) (sym is)
-        (subst (λ b. IsIn x (map (λ c. c.key) (cond b [] cs))) (sym inner) i))
+        (subst (λ m. IsAmong x (map (λ c. c.key) (cond (is_leaf k) [] (elim m as (λ n. List Child) [ gives ds ↦ ds | fails f ↦ [] ])))) (sym is)
+        (subst (λ b. IsAmong x (map (λ c. c.key) (cond b [] cs))) (sym inner) i))
 
     grown_within : (s : State F) → IsSound root s → (cs : List Child) → Within (keys_of cs) tree_keys → Within (keys s ++ new_keys (keys s) (keys_of cs)) tree_keys
     grown_within s sound cs within x i = elim (in_append x (keys s) (new_keys (keys s) (keys_of cs)) i) [
@@ -224,7 +224,7 @@ module _ {F : Type 0} (meaning : Key → Meaning F) (is_leaf truth : Key → Boo
         (opening_fit (keys s ++ ks) ks (is_unset s.stop)) in
         record {
           fit = subst (λ js. AllFit js (is_unset s.stop) (put n c s.entries ++ map (opening_entry meaning is_leaf truth limit) ks)) (sym grown) now;
-          root_in = subst (IsIn root) (sym grown) (in_left root (keys s) ks sound.root_in);
+          root_in = subst (IsAmong root) (sym grown) (in_left root (keys s) ks sound.root_in);
           distinct = subst Distinct (sym grown) (new_distinct (keys s) (keys_of cs) sound.distinct);
           within = subst (λ js. Within js tree_keys) (sym grown) (grown_within s sound cs (children_within s sound f.entry.key cs f.inside inner means));
           few = subst (λ js. length js ≤ limit) (sym grown) (at_most (length (keys s ++ ks)) h);
@@ -290,7 +290,7 @@ module _ {F : Type 0} (meaning : Key → Meaning F) (is_leaf truth : Key → Boo
       fit = opening_fit (root ∷ []) (root ∷ []) true;
       root_in = inl refl;
       distinct = ((λ h. h), tt);
-      within = λ x i. elim i [ inl e ↦ subst (λ y. IsIn y tree_keys) (sym e) (root_stands meaning is_leaf truth height falls root) | inr none ↦ absurd none ];
+      within = λ x i. elim i [ inl e ↦ subst (λ y. IsAmong y tree_keys) (sym e) (root_stands meaning is_leaf truth height falls root) | inr none ↦ absurd none ];
       few = some;
       beyond = λ e. absurd (cc);
     }) run

@@ -7,7 +7,7 @@ use Rattle.qe_piece.specs.Meaning.{Meaning, Child, gives, fails}
 use Rattle.qe_board.specs.declared.event.Event.{Event}
 use Rattle.qe_board.specs.declared.event.Stopping.{Stopping}
 use Rattle.qe_board.specs.declared.event.Stopping.TheVariants.{Unset, Truth, Limit, Memory}
-use Rattle.qe_board.specs.State.{Key, IsIn, Distinct, Link, Condition, waiting, held, expanded, leaf, failed, dropped, Entry, State, is_waiting, is_held, is_unset, keys, count, is_done, has_true_leaf}
+use Rattle.qe_board.specs.State.{Key, IsAmong, Distinct, Link, Condition, waiting, held, expanded, leaf, failed, dropped, Entry, State, is_waiting, is_held, is_unset, keys, count, is_done, has_true_leaf}
 use Rattle.qe_board.specs.Machine.{same_key, opened, IsRun, IsRunFrom, replay, replay_from}
 use Rattle.qe_board.specs.Tree.{Spot, Verdict, holds, fails_at, has_leaves, successors_of, below, fault_of, fault, spots, nodes, leaf_spots, first_fault, has_truth, verdict_of, verdict, Falls}
 use Rattle.qe_board.specs.Verdict.{condition_of, fault_in, is_leaf_in, leaves_in, first_fault_in, verdict_in}
@@ -19,25 +19,25 @@ use Rattle.qe_board.specs.Kept.{AreLinks, IsFit, AreFit}
 use Rattle.qe_board.proofs.Sound.{IsSound, sound_run}
 
 -- a piece that is true, where there is one
-any_entry : {F : Type 0} (truth : Key → Bool) (es : List (Entry F)) → list_any (λ e. truth e.key) es ≡ true → (k : Key) × (IsIn k (map (λ e. e.key) es) × (truth k ≡ true))
+any_entry : {F : Type 0} (truth : Key → Bool) (es : List (Entry F)) → list_any (λ e. truth e.key) es ≡ true → (k : Key) × (IsAmong k (map (λ e. e.key) es) × (truth k ≡ true))
 any_entry truth [] h = absurd (cc)
 any_entry truth (e ∷ es) h = by_head (truth e.key) refl h (any_entry truth es)
   where
-    by_head : (b : Bool) → truth e.key ≡ b → (b || list_any (λ d. truth d.key) es) ≡ true → (list_any (λ d. truth d.key) es ≡ true → (k : Key) × (IsIn k (map (λ d. d.key) es) × (truth k ≡ true)))
-        → (k : Key) × (IsIn k (e.key ∷ map (λ d. d.key) es) × (truth k ≡ true))
+    by_head : (b : Bool) → truth e.key ≡ b → (b || list_any (λ d. truth d.key) es) ≡ true → (list_any (λ d. truth d.key) es ≡ true → (k : Key) × (IsAmong k (map (λ d. d.key) es) × (truth k ≡ true)))
+        → (k : Key) × (IsAmong k (e.key ∷ map (λ d. d.key) es) × (truth k ≡ true))
     by_head true is some again = (e.key, (inl refl, is))
     by_head false is some again = let r = again some in (r.0, (inr r.1.0, r.1.1))
 
-any_spot : (truth : Key → Bool) (ps : List Spot) → list_any (λ p. truth p.key) ps ≡ true → (k : Key) × (IsIn k (spot_keys ps) × (truth k ≡ true))
+any_spot : (truth : Key → Bool) (ps : List Spot) → list_any (λ p. truth p.key) ps ≡ true → (k : Key) × (IsAmong k (spot_keys ps) × (truth k ≡ true))
 any_spot truth [] h = absurd (cc)
 any_spot truth (p ∷ ps) h = by_head (truth p.key) refl h (any_spot truth ps)
   where
-    by_head : (b : Bool) → truth p.key ≡ b → (b || list_any (λ q. truth q.key) ps) ≡ true → (list_any (λ q. truth q.key) ps ≡ true → (k : Key) × (IsIn k (spot_keys ps) × (truth k ≡ true)))
-        → (k : Key) × (IsIn k (p.key ∷ spot_keys ps) × (truth k ≡ true))
+    by_head : (b : Bool) → truth p.key ≡ b → (b || list_any (λ q. truth q.key) ps) ≡ true → (list_any (λ q. truth q.key) ps ≡ true → (k : Key) × (IsAmong k (spot_keys ps) × (truth k ≡ true)))
+        → (k : Key) × (IsAmong k (p.key ∷ spot_keys ps) × (truth k ≡ true))
     by_head true is some again = (p.key, (inl refl, is))
     by_head false is some again = let r = again some in (r.0, (inr r.1.0, r.1.1))
 
-entry_from : {F : Type 0} (truth : Key → Bool) (k : Key) (es : List (Entry F)) → IsIn k (map (λ e. e.key) es) → truth k ≡ true → list_any (λ e. truth e.key) es ≡ true
+entry_from : {F : Type 0} (truth : Key → Bool) (k : Key) (es : List (Entry F)) → IsAmong k (map (λ e. e.key) es) → truth k ≡ true → list_any (λ e. truth e.key) es ≡ true
 entry_from truth k [] h passes = absurd h
 entry_from truth k (e ∷ es) (inl same) passes = λ i. (ap truth (sym same) ∙ passes) i || list_any (λ d. truth d.key) es
 entry_from truth k (e ∷ es) (inr h) passes = right (truth e.key) (entry_from truth k es h passes)
@@ -49,7 +49,7 @@ entry_from truth k (e ∷ es) (inr h) passes = right (truth e.key) (entry_from t
 -- what is linked is among the keys
 links_within : (ks : List Key) (ls : List Link) (cs : List Child) → AreLinks ls cs ks → Within (child_keys cs) ks
 links_within ks [] [] h x i = absurd i
-links_within ks (l ∷ ls) (c ∷ cs) h x (inl e) = subst (λ y. IsIn y ks) (sym e) (stands_in l.entry c.key ks h.1)
+links_within ks (l ∷ ls) (c ∷ cs) h x (inl e) = subst (λ y. IsAmong y ks) (sym e) (stands_in l.entry c.key ks h.1)
 links_within ks (l ∷ ls) (c ∷ cs) h x (inr i) = links_within ks ls cs h.2 x i
 links_within ks [] (c ∷ cs) h x i = absurd h
 links_within ks (l ∷ ls) [] h x i = absurd h
@@ -76,17 +76,17 @@ module _ {F : Type 0} (meaning : Key → Meaning F) (is_leaf truth : Key → Boo
   tells ks waiting k no_wait no_hold fit = absurd (cc)
   tells ks (held w) k no_wait no_hold fit = absurd (cc)
   tells ks (expanded ls) k no_wait no_hold fit = record {
-    children = λ x i. links_within ks ls fit.1.0 fit.1.1.1 x (subst (λ m. IsIn x (child_keys (successors_of meaning is_leaf truth height m))) fit.1.1.0 (subst (λ b. IsIn x (child_keys (cond b [] (successors_of meaning is_leaf truth height (meaning k))))) fit.0 i));
+    children = λ x i. links_within ks ls fit.1.0 fit.1.1.1 x (subst (λ m. IsAmong x (child_keys (successors_of meaning is_leaf truth height m))) fit.1.1.0 (subst (λ b. IsAmong x (child_keys (cond b [] (successors_of meaning is_leaf truth height (meaning k))))) fit.0 i));
     fault_is = ap (λ b. cond b None (fault_of meaning is_leaf truth height (meaning k))) fit.0 ∙ ap (fault_of meaning is_leaf truth height) fit.1.1.0;
     leaf_is = fit.0;
   }
   tells ks leaf k no_wait no_hold fit = record {
-    children = λ x i. absurd (subst (λ b. IsIn x (child_keys (cond b [] (successors_of meaning is_leaf truth height (meaning k))))) fit i);
+    children = λ x i. absurd (subst (λ b. IsAmong x (child_keys (cond b [] (successors_of meaning is_leaf truth height (meaning k))))) fit i);
     fault_is = ap (λ b. cond b None (fault_of meaning is_leaf truth height (meaning k))) fit;
     leaf_is = fit;
   }
   tells ks (failed f) k no_wait no_hold fit = record {
-    children = λ x i. absurd (subst (λ m. IsIn x (child_keys (successors_of meaning is_leaf truth height m))) fit.1 (subst (λ b. IsIn x (child_keys (cond b [] (successors_of meaning is_leaf truth height (meaning k))))) fit.0 i));
+    children = λ x i. absurd (subst (λ m. IsAmong x (child_keys (successors_of meaning is_leaf truth height m))) fit.1 (subst (λ b. IsAmong x (child_keys (cond b [] (successors_of meaning is_leaf truth height (meaning k))))) fit.0 i));
     fault_is = ap (λ b. cond b None (fault_of meaning is_leaf truth height (meaning k))) fit.0 ∙ ap (fault_of meaning is_leaf truth height) fit.1;
     leaf_is = fit.0;
   }
@@ -97,7 +97,7 @@ module _ {F : Type 0} (meaning : Key → Meaning F) (is_leaf truth : Key → Boo
   first_zero false n h = (refl, omega (arith, h))
 
   -- the first entry with a key
-  at_key : (ks : List Key) (es : List (Entry F)) → Fit ks true es → count is_waiting es ≡ 0 → count is_held es ≡ 0 → (k : Key) → IsIn k (map (λ e. e.key) es)
+  at_key : (ks : List Key) (es : List (Entry F)) → Fit ks true es → count is_waiting es ≡ 0 → count is_held es ≡ 0 → (k : Key) → IsAmong k (map (λ e. e.key) es)
       → (c : Condition F) × ((condition_of k es ≡ Some c) × Tells ks c k)
   at_key ks [] fit no_wait no_hold k h = absurd h
   at_key ks (e ∷ es) fit no_wait no_hold k h =
@@ -115,7 +115,7 @@ module _ {F : Type 0} (meaning : Key → Meaning F) (is_leaf truth : Key → Boo
 
   module _ (ks : List Key) (es : List (Entry F)) (fit : Fit ks true es) (no_wait : count is_waiting es ≡ 0) (no_hold : count is_held es ≡ 0) where
     closed : ks ≡ map (λ e. e.key) es → Closed meaning is_leaf truth height ks
-    closed same k h = (at_key ks es fit no_wait no_hold k (subst (IsIn k) same h)).1.1.children
+    closed same k h = (at_key ks es fit no_wait no_hold k (subst (IsAmong k) same h)).1.1.children
 
     leaves_same : (ps : List Spot) → Within (spot_keys ps) (map (λ e. e.key) es) → leaves_in es ps ≡ leaf_spots meaning is_leaf truth height ps
     leaves_same [] within = refl

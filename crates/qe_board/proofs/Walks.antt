@@ -2,8 +2,8 @@
 use Rattle.std.proofs.Common.{ℕ, zero, suc, ◌+◌, ◌≤◌, ◌<◌, ◌≡◌, ◌∙◌, ◌⊎◌, inl, inr, refl, sym, ap, subst, Bool, true, false, cond, ◌||◌, List, [], ◌∷◌, ◌++◌, length, map, flat_map, slice_index_or, arith}
 use Rattle.std.specs.List.{All, list_any}
 use Rattle.qe_piece.specs.Meaning.{Meaning, Child, gives, fails, Descends}
-use Rattle.qe_board.specs.State.{Key, IsIn, Distinct}
-use Rattle.qe_board.specs.Machine.{is_among}
+use Rattle.qe_board.specs.State.{Key, IsAmong, Distinct}
+use Rattle.qe_board.specs.Machine.{among}
 use Rattle.qe_board.specs.Tree.{Spot, first_spots, successors_of, below, walk, spots, Falls}
 use Rattle.qe_board.proofs.Keys.{Within, among_tells, in_append, in_left, in_right, distinct_end, not_among}
 
@@ -19,20 +19,20 @@ keys_append (p ∷ ps) qs = ap (λ ks. p.key ∷ ks) (keys_append ps qs)
 
 -- ---- first places
 
-by_met : (P : List Spot → Type 0) (met : List Key) (p : Spot) (ps : List Spot) → (is_among p.key met ≡ true → P (first_spots met ps)) → (is_among p.key met ≡ false → P (p ∷ first_spots (met ++ p.key ∷ []) ps))
+by_met : (P : List Spot → Type 0) (met : List Key) (p : Spot) (ps : List Spot) → (among p.key met ≡ true → P (first_spots met ps)) → (among p.key met ≡ false → P (p ∷ first_spots (met ++ p.key ∷ []) ps))
     → P (first_spots met (p ∷ ps))
-by_met P met p ps old new = elim (is_among p.key met) as (λ b. is_among p.key met ≡ b → P (cond b (first_spots met ps) (p ∷ first_spots (met ++ p.key ∷ []) ps))) [ true ↦ old | false ↦ new ] refl
+by_met P met p ps old new = elim (among p.key met) as (λ b. among p.key met ≡ b → P (cond b (first_spots met ps) (p ∷ first_spots (met ++ p.key ∷ []) ps))) [ true ↦ old | false ↦ new ] refl
 
 pub first_from : (met : List Key) (ps : List Spot) → Within (spot_keys (first_spots met ps)) (spot_keys ps)
 first_from met [] k h = h
-first_from met (p ∷ ps) k h = by_met (λ qs. IsIn k (spot_keys qs) → IsIn k (p.key ∷ spot_keys ps)) met p ps
+first_from met (p ∷ ps) k h = by_met (λ qs. IsAmong k (spot_keys qs) → IsAmong k (p.key ∷ spot_keys ps)) met p ps
     (λ old n. inr (first_from met ps k n))
     (λ new n. elim n [ inl e ↦ inl e | inr later ↦ inr (first_from (met ++ p.key ∷ []) ps k later) ]) h
 
-pub first_has : (met : List Key) (ps : List Spot) (k : Key) → IsIn k (spot_keys ps) → IsIn k met ⊎ IsIn k (spot_keys (first_spots met ps))
+pub first_has : (met : List Key) (ps : List Spot) (k : Key) → IsAmong k (spot_keys ps) → IsAmong k met ⊎ IsAmong k (spot_keys (first_spots met ps))
 first_has met [] k h = absurd h
-first_has met (p ∷ ps) k h = by_met (λ qs. IsIn k met ⊎ IsIn k (spot_keys qs)) met p ps
-    (λ old. elim h [ inl e ↦ inl (subst (λ x. IsIn x met) (sym e) ((among_tells p.key met).0 old)) | inr later ↦ first_has met ps k later ])
+first_has met (p ∷ ps) k h = by_met (λ qs. IsAmong k met ⊎ IsAmong k (spot_keys qs)) met p ps
+    (λ old. elim h [ inl e ↦ inl (subst (λ x. IsAmong x met) (sym e) ((among_tells p.key met).0 old)) | inr later ↦ first_has met ps k later ])
     (λ new. elim h [
       | inl e ↦ inr (inl e)
       | inr later ↦ elim (first_has (met ++ p.key ∷ []) ps k later) [
@@ -41,11 +41,11 @@ first_has met (p ∷ ps) k h = by_met (λ qs. IsIn k met ⊎ IsIn k (spot_keys q
       ]
     ])
 
-first_apart : (met : List Key) (ps : List Spot) (k : Key) → IsIn k met → IsIn k (spot_keys (first_spots met ps)) → ⊥
+first_apart : (met : List Key) (ps : List Spot) (k : Key) → IsAmong k met → IsAmong k (spot_keys (first_spots met ps)) → ⊥
 first_apart met [] k old h = h
-first_apart met (p ∷ ps) k old h = by_met (λ qs. IsIn k (spot_keys qs) → ⊥) met p ps
+first_apart met (p ∷ ps) k old h = by_met (λ qs. IsAmong k (spot_keys qs) → ⊥) met p ps
     (λ is n. first_apart met ps k old n)
-    (λ new n. elim n [ inl e ↦ not_among p.key met new (subst (λ x. IsIn x met) e old) | inr later ↦ first_apart (met ++ p.key ∷ []) ps k (in_left k met (p.key ∷ []) old) later ]) h
+    (λ new n. elim n [ inl e ↦ not_among p.key met new (subst (λ x. IsAmong x met) e old) | inr later ↦ first_apart (met ++ p.key ∷ []) ps k (in_left k met (p.key ∷ []) old) later ]) h
 
 pub first_distinct : (met : List Key) (ps : List Spot) → Distinct (spot_keys (first_spots met ps))
 first_distinct met [] = tt
@@ -55,7 +55,7 @@ first_distinct met (p ∷ ps) = by_met (λ qs. Distinct (spot_keys qs)) met p ps
 
 -- ---- a true piece among places
 
-pub any_from : (truth : Key → Bool) (k : Key) (ps : List Spot) → IsIn k (spot_keys ps) → truth k ≡ true → list_any (λ q. truth q.key) ps ≡ true
+pub any_from : (truth : Key → Bool) (k : Key) (ps : List Spot) → IsAmong k (spot_keys ps) → truth k ≡ true → list_any (λ q. truth q.key) ps ≡ true
 any_from truth k [] h holds = absurd h
 any_from truth k (p ∷ ps) (inl e) holds = λ i. (ap truth (sym e) ∙ holds) i || list_any (λ q. truth q.key) ps
 any_from truth k (p ∷ ps) (inr h) holds = right (truth p.key) (any_from truth k ps h holds)
@@ -67,7 +67,7 @@ any_from truth k (p ∷ ps) (inr h) holds = right (truth p.key) (any_from truth 
 -- ---- the whole tree
 
 -- what holds of all holds of each
-all_below : (P : Key → Type 0) (cs : List Child) → All (λ c. P c.key) cs → (x : Key) → IsIn x (child_keys cs) → P x
+all_below : (P : Key → Type 0) (cs : List Child) → All (λ c. P c.key) cs → (x : Key) → IsAmong x (child_keys cs) → P x
 all_below P [] all x h = absurd h
 all_below P (c ∷ cs) all x (inl e) = subst P (sym e) (all 0 c (omega arith))
 all_below P (c ∷ cs) all x (inr h) = all_below P cs (λ k d less. all (suc k) d (omega (arith, less))) x h
@@ -85,57 +85,57 @@ module _ {F : Type 0} (meaning : Key → Meaning F) (is_leaf truth : Key → Boo
 
   -- keys that have the successors of each of them
   abbrev pub Closed : List Key → Type 0
-  Closed ks = (k : Key) → IsIn k ks → Within (child_keys (under k)) ks
+  Closed ks = (k : Key) → IsAmong k ks → Within (child_keys (under k)) ks
 
-  each_within : (ks : List Key) (n : ℕ) (path : List ℕ) → ((p : List ℕ) (k : Key) → IsIn k ks → Within (spot_keys (walked n p k)) ks)
+  each_within : (ks : List Key) (n : ℕ) (path : List ℕ) → ((p : List ℕ) (k : Key) → IsAmong k ks → Within (spot_keys (walked n p k)) ks)
       → (cs : List Child) → Within (child_keys cs) ks → Within (spot_keys (walked_each n path cs)) ks
   each_within ks n path again [] within k h = absurd h
   each_within ks n path again (c ∷ cs) within k h =
-      elim (in_append k (spot_keys (walked n (path ++ c.point ∷ []) c.key)) (spot_keys (walked_each n path cs)) (subst (IsIn k) (keys_append (walked n (path ++ c.point ∷ []) c.key) (walked_each n path cs)) h)) [
+      elim (in_append k (spot_keys (walked n (path ++ c.point ∷ []) c.key)) (spot_keys (walked_each n path cs)) (subst (IsAmong k) (keys_append (walked n (path ++ c.point ∷ []) c.key) (walked_each n path cs)) h)) [
         | inl l ↦ again (path ++ c.point ∷ []) c.key (within c.key (inl refl)) k l
         | inr r ↦ each_within ks n path again cs (λ j i. within j (inr i)) k r
       ]
 
-  pub walk_within : (ks : List Key) → Closed ks → (n : ℕ) (path : List ℕ) (k : Key) → IsIn k ks → Within (spot_keys (walked n path k)) ks
-  walk_within ks closed zero path k h j i = elim i [ inl e ↦ subst (λ x. IsIn x ks) (sym e) h | inr none ↦ absurd none ]
+  pub walk_within : (ks : List Key) → Closed ks → (n : ℕ) (path : List ℕ) (k : Key) → IsAmong k ks → Within (spot_keys (walked n path k)) ks
+  walk_within ks closed zero path k h j i = elim i [ inl e ↦ subst (λ x. IsAmong x ks) (sym e) h | inr none ↦ absurd none ]
   walk_within ks closed (suc n) path k h j i = elim i [
-    | inl e ↦ subst (λ x. IsIn x ks) (sym e) h
+    | inl e ↦ subst (λ x. IsAmong x ks) (sym e) h
     | inr later ↦ each_within ks n path (λ p x y. walk_within ks closed n p x y) (under k) (closed k h) j later
   ]
 
   -- ---- its pieces have their successors among them
 
   module _ (falls : Falls meaning is_leaf truth height) where
-    lower : (k x : Key) → IsIn x (child_keys (under k)) → height x < height k
-    lower k x h = elim (is_leaf k) as (λ b. is_leaf k ≡ b → IsIn x (child_keys (cond b [] (successors_of meaning is_leaf truth height (meaning k)))) → height x < height k) [
+    lower : (k x : Key) → IsAmong x (child_keys (under k)) → height x < height k
+    lower k x h = elim (is_leaf k) as (λ b. is_leaf k ≡ b → IsAmong x (child_keys (cond b [] (successors_of meaning is_leaf truth height (meaning k)))) → height x < height k) [
       | true ↦ λ leaf i. absurd i
       | false ↦ λ inner. by_meaning (meaning k) (falls k inner)
     ] refl h
       where
-        by_meaning : (m : Meaning F) → Descends height (height k) m → IsIn x (child_keys (successors_of meaning is_leaf truth height m)) → height x < height k
+        by_meaning : (m : Meaning F) → Descends height (height k) m → IsAmong x (child_keys (successors_of meaning is_leaf truth height m)) → height x < height k
         by_meaning (gives cs) all i = all_below (λ y. height y < height k) cs all x i
         by_meaning (fails f) all i = absurd i
 
-    stands_first : (n : ℕ) (path : List ℕ) (k : Key) → IsIn k (spot_keys (walked n path k))
+    stands_first : (n : ℕ) (path : List ℕ) (k : Key) → IsAmong k (spot_keys (walked n path k))
     stands_first zero path k = inl refl
     stands_first (suc n) path k = inl refl
 
-    in_each : (n : ℕ) (path : List ℕ) (cs : List Child) (x : Key) → IsIn x (child_keys cs) → IsIn x (spot_keys (walked_each n path cs))
+    in_each : (n : ℕ) (path : List ℕ) (cs : List Child) (x : Key) → IsAmong x (child_keys cs) → IsAmong x (spot_keys (walked_each n path cs))
     in_each n path [] x h = absurd h
-    in_each n path (c ∷ cs) x h = subst (IsIn x) (sym (keys_append (walked n (path ++ c.point ∷ []) c.key) (walked_each n path cs))) (elim h [
-      | inl e ↦ in_left x _ _ (subst (λ y. IsIn x (spot_keys (walked n (path ++ c.point ∷ []) y))) e (stands_first n (path ++ c.point ∷ []) x))
+    in_each n path (c ∷ cs) x h = subst (IsAmong x) (sym (keys_append (walked n (path ++ c.point ∷ []) c.key) (walked_each n path cs))) (elim h [
+      | inl e ↦ in_left x _ _ (subst (λ y. IsAmong x (spot_keys (walked n (path ++ c.point ∷ []) y))) e (stands_first n (path ++ c.point ∷ []) x))
       | inr later ↦ in_right x (spot_keys (walked n (path ++ c.point ∷ []) c.key)) _ (in_each n path cs x later)
     ])
 
     abbrev ClosedFrom : ℕ → List Spot → Type 0
-    ClosedFrom n ps = (j : Key) → IsIn j (spot_keys ps) → Within (child_keys (under j)) (spot_keys ps)
+    ClosedFrom n ps = (j : Key) → IsAmong j (spot_keys ps) → Within (child_keys (under j)) (spot_keys ps)
 
     each_closed : (n : ℕ) (path : List ℕ) → ((p : List ℕ) (k : Key) → height k ≤ n → ClosedFrom n (walked n p k))
-        → (cs : List Child) → ((x : Key) → IsIn x (child_keys cs) → height x ≤ n) → ClosedFrom n (walked_each n path cs)
+        → (cs : List Child) → ((x : Key) → IsAmong x (child_keys cs) → height x ≤ n) → ClosedFrom n (walked_each n path cs)
     each_closed n path again [] low j h x i = absurd h
     each_closed n path again (c ∷ cs) low j h x i =
         let here = walked n (path ++ c.point ∷ []) c.key in let rest = walked_each n path cs in
-        subst (IsIn x) (sym (keys_append here rest)) (elim (in_append j (spot_keys here) (spot_keys rest) (subst (IsIn j) (keys_append here rest) h)) [
+        subst (IsAmong x) (sym (keys_append here rest)) (elim (in_append j (spot_keys here) (spot_keys rest) (subst (IsAmong j) (keys_append here rest) h)) [
           | inl l ↦ in_left x (spot_keys here) (spot_keys rest) (again (path ++ c.point ∷ []) c.key (low c.key (inl refl)) j l x i)
           | inr r ↦ in_right x (spot_keys here) (spot_keys rest) (each_closed n path again cs (λ y k. low y (inr k)) j r x i)
         ])
@@ -146,12 +146,12 @@ module _ {F : Type 0} (meaning : Key → Meaning F) (is_leaf truth : Key → Boo
       | inr none ↦ absurd none
     ]
     walk_closed (suc n) path k low j h x i = elim h [
-      | inl e ↦ inr (in_each n path (under k) x (subst (λ y. IsIn x (child_keys (under y))) e i))
+      | inl e ↦ inr (in_each n path (under k) x (subst (λ y. IsAmong x (child_keys (under y))) e i))
       | inr later ↦ inr (each_closed n path (λ p y l. walk_closed n p y l) (under k) (λ y m. (let less = lower k y m in omega (arith, low, less))) j later x i)
     ]
 
     pub spots_closed : (root : Key) → Closed (spot_keys (spots meaning is_leaf truth height root))
     spots_closed root k h = walk_closed (height root) [] root (omega arith) k h
 
-    pub root_stands : (root : Key) → IsIn root (spot_keys (spots meaning is_leaf truth height root))
+    pub root_stands : (root : Key) → IsAmong root (spot_keys (spots meaning is_leaf truth height root))
     root_stands root = stands_first (height root) [] root

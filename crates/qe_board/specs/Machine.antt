@@ -13,18 +13,18 @@ use Rattle.qe_board.specs.State.{Key, Link, Condition, waiting, held, expanded, 
 abbrev pub same_key : Key → Key → Bool
 same_key = pointwise eqb
 
-abbrev pub is_among : Key → List Key → Bool
-is_among k ks = list_any (same_key k) ks
+abbrev pub among : Key → List Key → Bool
+among k ks = list_any (same_key k) ks
 
 -- the number of the first key that is this one
-abbrev pub number_of : Key → List Key → ℕ
-number_of k [] = 0
-number_of k (j ∷ js) = cond (same_key k j) 0 (suc (number_of k js))
+abbrev pub index_of : Key → List Key → ℕ
+index_of k [] = 0
+index_of k (j ∷ js) = cond (same_key k j) 0 (suc (index_of k js))
 
 -- those that are not among the known ones, each once, in order
 abbrev pub new_keys : List Key → List Key → List Key
 new_keys known [] = []
-new_keys known (k ∷ ks) = cond (is_among k known) (new_keys known ks) (k ∷ new_keys (known ++ k ∷ []) ks)
+new_keys known (k ∷ ks) = cond (among k known) (new_keys known ks) (k ∷ new_keys (known ++ k ∷ []) ks)
 
 -- ---- conditions that change
 
@@ -66,7 +66,7 @@ module _ {F : Type 0} (meaning : Key → Meaning F) (is_leaf truth : Key → Boo
   grown_keys cs s = keys s ++ new_keys (keys s) (child_keys cs)
 
   abbrev pub links : List Child → List Key → List Link
-  links cs ks = map (λ c. record { point = c.point; entry = number_of c.key ks }) cs
+  links cs ks = map (λ c. record { point = c.point; entry = index_of c.key ks }) cs
 
   -- entries and new ones together are at most the limit
   abbrev pub fits : List Child → State F → Bool

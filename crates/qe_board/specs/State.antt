@@ -9,14 +9,14 @@ abbrev pub Key : Type 0
 Key = List ℕ
 
 -- the key is among these
-abbrev pub IsIn : Key → List Key → Type 0
-IsIn k [] = ⊥
-IsIn k (j ∷ js) = (k ≡ j) ⊎ IsIn k js
+abbrev pub IsAmong : Key → List Key → Type 0
+IsAmong k [] = ⊥
+IsAmong k (j ∷ js) = (k ≡ j) ⊎ IsAmong k js
 
 -- none stands twice
 abbrev pub Distinct : List Key → Type 0
 Distinct [] = Unit {0}
-Distinct (k ∷ ks) = (IsIn k ks → ⊥) × Distinct ks
+Distinct (k ∷ ks) = (IsAmong k ks → ⊥) × Distinct ks
 
 -- a successor: the number of its point, and the number of its entry
 pub record Link : Type 0 where

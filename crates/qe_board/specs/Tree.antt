@@ -3,7 +3,7 @@ use Rattle.std.specs.Prelude.{ℕ, zero, suc, ◌≡◌, Bool, false, cond, List
 use Rattle.std.specs.List.{list_any}
 use Rattle.qe_piece.specs.Meaning.{Meaning, Child, gives, fails, Descends}
 use Rattle.qe_board.specs.State.{Key}
-use Rattle.qe_board.specs.Machine.{is_among}
+use Rattle.qe_board.specs.Machine.{among}
 
 -- a place: the numbers of the points on the way from the root, and the piece that stands there
 pub record Spot : Type 0 where
@@ -13,7 +13,7 @@ pub record Spot : Type 0 where
 -- the first place of each piece that is not met before
 abbrev pub first_spots : List Key → List Spot → List Spot
 first_spots met [] = []
-first_spots met (p ∷ ps) = cond (is_among p.key met) (first_spots met ps) (p ∷ first_spots (met ++ p.key ∷ []) ps)
+first_spots met (p ∷ ps) = cond (among p.key met) (first_spots met ps) (p ∷ first_spots (met ++ p.key ∷ []) ps)
 
 -- what a tree comes to: a leaf is true; or the first piece that fails, and why; or the places of the leaves
 pub data Verdict (F : Type 0) : Type 0 where

@@ -6,7 +6,7 @@ use Rattle.std.specs.Ordering.{int_eq}
 use Rattle.qe_poly.specs.Monomial.{Monomial, power}
 use Rattle.qe_poly.specs.Polynomial.{Polynomial, IsPolynomial, collected, term_unless_zero}
 use Rattle.qe_poly.proofs.Canonical.{IsPolynomial-collected}
-use Rattle.qe_gen.specs.Generated.{a, x1, x2, x3, coefficient, terms, polynomial}
+use Rattle.qe_gen.specs.Generated.{a, x1, x2, x3, coefficient_at, terms, polynomial}
 
 -- the product that a coefficient starts from is far below 2^32
 pub product_fits : (number i j : ℕ) → number ≤ 999999 → i < 16 → j ≤ 5
@@ -50,14 +50,14 @@ five_terms m0 m1 m2 m3 m4 c0 c1 c2 c3 c4 p0 p1 p2 p3 p4 e0 e1 e2 e3 e4 =
 
 -- from the greatest monomial to the least they are the polynomial
 pub terms_in_turn : (number i : ℕ) (p0 p1 p2 p3 p4 : Polynomial)
-    → p0 ≡ term_unless_zero (power a 1) (coefficient number i 4) []
-    → p1 ≡ p0 ++ term_unless_zero (power x1 1) (coefficient number i 1) []
-    → p2 ≡ p1 ++ term_unless_zero (power x2 1) (coefficient number i 2) []
-    → p3 ≡ p2 ++ term_unless_zero (power x3 1) (coefficient number i 3) []
-    → p4 ≡ p3 ++ term_unless_zero [] (coefficient number i 5) [] → p4 ≡ polynomial number i
+    → p0 ≡ term_unless_zero (power a 1) (coefficient_at number i 4) []
+    → p1 ≡ p0 ++ term_unless_zero (power x1 1) (coefficient_at number i 1) []
+    → p2 ≡ p1 ++ term_unless_zero (power x2 1) (coefficient_at number i 2) []
+    → p3 ≡ p2 ++ term_unless_zero (power x3 1) (coefficient_at number i 3) []
+    → p4 ≡ p3 ++ term_unless_zero [] (coefficient_at number i 5) [] → p4 ≡ polynomial number i
 unfolding polynomial
 terms_in_turn number i p0 p1 p2 p3 p4 e0 e1 e2 e3 e4 =
-    let c : ℕ → ℤ = coefficient number i in
+    let c : ℕ → ℤ = coefficient_at number i in
     five_terms (power a 1) (power x1 1) (power x2 1) (power x3 1) [] (c 4) (c 1) (c 2) (c 3) (c 5) p0 p1 p2 p3 p4 e0 e1 e2 e3 e4
     ∙ sym (in_order (c 1) (c 2) (c 3) (c 4) (c 5))
 

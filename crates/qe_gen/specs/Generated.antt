@@ -29,17 +29,17 @@ input_names = codes "a" ∷ codes "x1" ∷ codes "x2" ∷ codes "x3" ∷ []
 -- ---- atoms
 
 -- the coefficient at place j, from 1, of atom i, from 0; it is a whole number from -9 to 9
-abbrev pub coefficient : ℕ → ℕ → ℕ → ℤ
-coefficient number i j = pos (((i + 1) * (j + 2) * (number + 3) + i * i + j) % 19) -ℤ pos 9
+abbrev pub coefficient_at : ℕ → ℕ → ℕ → ℤ
+coefficient_at number i j = pos (((i + 1) * (j + 2) * (number + 3) + i * i + j) % 19) -ℤ pos 9
 
 -- the variables x1, x2, x3 and a, and a constant, each with the coefficient at its place
 abbrev pub terms : ℕ → ℕ → List Term
 terms number i =
-    (power x1 1, coefficient number i 1)
-    ∷ (power x2 1, coefficient number i 2)
-    ∷ (power x3 1, coefficient number i 3)
-    ∷ (power a 1, coefficient number i 4)
-    ∷ ([], coefficient number i 5)
+    (power x1 1, coefficient_at number i 1)
+    ∷ (power x2 1, coefficient_at number i 2)
+    ∷ (power x3 1, coefficient_at number i 3)
+    ∷ (power a 1, coefficient_at number i 4)
+    ∷ ([], coefficient_at number i 5)
     ∷ []
 
 -- the polynomial that they add up to

@@ -22,11 +22,11 @@ pub const X3: Var = Var(3);
 
 /// A coefficient of an atom, by its place from 1 to 5.
 #[tactic(auto, using(crate::proofs::Polynomials::product_fits))]
-fn coefficient(number: u32, atom: u32, place: u32) -> Coef
+fn coefficient_at(number: u32, atom: u32, place: u32) -> Coef
     requires number { number ≤ 999999 }
     requires atom { atom < 16 }
     requires place { place ≤ 5 }
-    ensures { result ≡ spec.coefficient number atom place }
+    ensures { result ≡ spec.coefficient_at number atom place }
 {
     let sum = (atom + 1) * (place + 2) * (number + 3) + atom * atom + place;
     Coef::small(i64::from(sum % 19) - 9)
@@ -64,14 +64,14 @@ fn terms(alloc: Global, number: u32, atom: u32) -> Result<Vec<Term>, OutOfMemory
     ensures { IfOk result (λ terms. map shown terms.items ≡ spec.polynomial number atom) }
 {
     let mut terms = Vec::new(alloc);
-    push_variable(alloc, &mut terms, A, coefficient(number, atom, 4))?;
-    push_variable(alloc, &mut terms, X1, coefficient(number, atom, 1))?;
-    push_variable(alloc, &mut terms, X2, coefficient(number, atom, 2))?;
-    push_variable(alloc, &mut terms, X3, coefficient(number, atom, 3))?;
+    push_variable(alloc, &mut terms, A, coefficient_at(number, atom, 4))?;
+    push_variable(alloc, &mut terms, X1, coefficient_at(number, atom, 1))?;
+    push_variable(alloc, &mut terms, X2, coefficient_at(number, atom, 2))?;
+    push_variable(alloc, &mut terms, X3, coefficient_at(number, atom, 3))?;
     push_term(
         &mut terms,
         Monomial::one(alloc),
-        coefficient(number, atom, 5),
+        coefficient_at(number, atom, 5),
     )?;
     Ok(terms)
 }

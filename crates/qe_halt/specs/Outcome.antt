@@ -30,17 +30,13 @@ IsAnswer limit exact (Err stop) = IsStop limit stop
 
 -- ---- a callee's limit in the caller's terms
 
-abbrev pub within : {L M : Type 0} → (L → M) → Option L → Option M
-within f None = None
-within f (Some limit) = Some (f limit)
+abbrev pub limit_within : {L M : Type 0} → (L → M) → Option L → Option M
+limit_within f None = None
+limit_within f (Some limit) = Some (f limit)
 
 abbrev pub stop_within : {L M : Type 0} → (L → M) → Halt L → Halt M
 stop_within f (Limit met) = Limit (f met)
 stop_within f OutOfMemory = OutOfMemory
-
-abbrev pub result_within : {A L M : Type 0} → (L → M) → Result A (Halt L) → Result A (Halt M)
-result_within f (Ok a) = Ok a
-result_within f (Err stop) = Err (stop_within f stop)
 
 -- ---- a type of stops with other variants: `told` gives the limit of a stop, and None for out of memory
 

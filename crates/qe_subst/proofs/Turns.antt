@@ -11,7 +11,7 @@ use Rattle.qe_root.specs.declared.stop.SubstStop.TheVariants.{At, TooLarge, OutO
 use Rattle.qe_root.specs.Atoms.{atoms, atoms_of}
 use Rattle.qe_root.specs.Stops.{met_limit}
 use Rattle.qe_halt.specs.Outcome.{or_else, IsStopBy}
-use Rattle.qe_subst.specs.Stop.{next_number, number_after, limit_at, first_stop}
+use Rattle.qe_subst.specs.Stop.{next_atom, number_after, limit_at, first_stop}
 
 or_else_assoc : (a b c : Option SubstStop) → or_else a (or_else b c) ≡ or_else (or_else a b) c
 or_else_assoc (Some s) b c = refl
@@ -23,8 +23,8 @@ module _ (x : ℕ) (point : Point) (own : Option Polynomial) where
       → first_stop x point own n (front ++ back) ≡ or_else (first_stop x point own n front) (first_stop x point own (number_after n front) back)
   limit_of_both n [] back = refl
   limit_of_both n (a ∷ front) back =
-      ap (or_else (limit_at x point own n a)) (limit_of_both (next_number n) front back)
-      ∙ or_else_assoc (limit_at x point own n a) (first_stop x point own (next_number n) front) (first_stop x point own (number_after (next_number n) front) back)
+      ap (or_else (limit_at x point own n a)) (limit_of_both (next_atom n) front back)
+      ∙ or_else_assoc (limit_at x point own n a) (first_stop x point own (next_atom n) front) (first_stop x point own (number_after (next_atom n) front) back)
 
   limit_found : (n : ℕ) (front back : List atom.Atom) (s : SubstStop) → first_stop x point own n front ≡ Some s → first_stop x point own n (front ++ back) ≡ Some s
   limit_found n front back s found = limit_of_both n front back ∙ ap (λ o. or_else o (first_stop x point own (number_after n front) back)) found
@@ -56,7 +56,7 @@ module _ (x : ℕ) (point : Point) (own : Option Polynomial) where
 
 after_both : (n : ℕ) (front back : List atom.Atom) → number_after n (front ++ back) ≡ number_after (number_after n front) back
 after_both n [] back = refl
-after_both n (a ∷ front) back = after_both (next_number n) front back
+after_both n (a ∷ front) back = after_both (next_atom n) front back
 
 pub turn_counts : (n m end : ℕ) (t : Formula) (left rest : Formulas) → left ≡ more t rest → m ≡ number_after n (atoms t)
     → number_after n (atoms_of left) ≡ end → number_after m (atoms_of rest) ≡ end

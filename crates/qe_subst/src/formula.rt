@@ -64,7 +64,7 @@ impl TestPoint<'_> {
         ensures made { let t = self.now in IsOutcomeBy met_limit
             (meaning.limit_at t.x.0 t.point.now (option_copied t.own) number.old atom.now)
             (λ g. tree g ≡ spec.for_atom t.x.0 t.point.now (option_copied t.own) atom.now) result }
-        ensures number { IfOk result (λ _. number.new ≡ meaning.next_number number.old) }
+        ensures number { IfOk result (λ _. number.new ≡ meaning.next_atom number.old) }
         ensures canonical { IsPolynomial atom.now.poly }
     {
         match self.for_atom(alloc, atom) {
