@@ -15,6 +15,7 @@ use Rattle.qe_norm.specs.declared.polarity.Polarity.{Polarity}
 use Rattle.qe_norm.specs.declared.polarity.Polarity.TheVariants.{Positive, Negative}
 use Rattle.qe_norm.specs.Polarity.{flipped, truth_under, conjunction, existential, signs_under}
 use Rattle.qe_norm.specs.NormalForm.{normal_form, normal_forms}
+use Rattle.qe_norm.proofs.Negatives.{chain}
 
 -- the truth of a formula whose normal form at the polarity has this truth
 abbrev pub agreeing : Polarity → Bool → Bool
@@ -48,9 +49,6 @@ not_moved false false = ((λ e. sym e), (λ e. sym e))
 signs_are : (b : Polarity) (c : Bool) (s : Signs) (t : Sign) → (has_sign (signs_under b s) t ≡ c) ↔ (has_sign s t ≡ agreeing b c)
 signs_are Positive c s t = ((λ e. e), (λ e. e))
 signs_are Negative c s t = (λ e. (not_moved (has_sign s t) c).0 (sym (complement_has s t) ∙ e), λ e. complement_has s t ∙ (not_moved (has_sign s t) c).1 e)
-
-then : {A B C : Type 0} → A ↔ B → B ↔ C → A ↔ C
-then p q = ((λ a. q.0 (p.0 a)), (λ c. p.1 (q.1 c)))
 
 -- ---- the whole formula
 
@@ -115,10 +113,10 @@ mutual
   normal_form_is Negative (Iff f g) true p =
       one_of (two (normal_form_is Positive f true p) (normal_form_is Negative g true p)) (two (normal_form_is Negative f true p) (normal_form_is Positive g true p))
   normal_form_is Positive (Iff f g) false p =
-      then (two (one_of (normal_form_is Positive f false p) (normal_form_is Positive g false p)) (one_of (normal_form_is Negative f false p) (normal_form_is Negative g false p)))
+      chain (two (one_of (normal_form_is Positive f false p) (normal_form_is Positive g false p)) (one_of (normal_form_is Negative f false p) (normal_form_is Negative g false p)))
       (crossed f g p)
   normal_form_is Negative (Iff f g) false p =
-      then (two (one_of (normal_form_is Positive f false p) (normal_form_is Negative g false p)) (one_of (normal_form_is Negative f false p) (normal_form_is Positive g false p)))
+      chain (two (one_of (normal_form_is Positive f false p) (normal_form_is Negative g false p)) (one_of (normal_form_is Negative f false p) (normal_form_is Positive g false p)))
       (level f g p)
   normal_form_is Positive (Ex x f) true p = some_number _ _ (λ v. normal_form_is Positive f true ((x, v) ∷ p))
   normal_form_is Positive (Ex x f) false p = each_number _ _ (λ v. normal_form_is Positive f false ((x, v) ∷ p))

@@ -14,7 +14,11 @@ use Rattle.qe_form.proofs.FreeReads.{truth_reads}
 use Rattle.qe_form.specs.Blocks.{QuantifierKind, exists, for_all, under_one}
 use Rattle.qe_norm.specs.declared.walk.Quantifier.{Quantifier}
 use Rattle.qe_norm.specs.Blocks.{kind_of, prefix, prefix_each, matrix, matrix_each}
+use Rattle.qe_norm.specs.declared.polarity.Polarity.{Polarity}
+use Rattle.qe_norm.specs.declared.polarity.Polarity.TheVariants.{Positive, Negative}
+use Rattle.qe_norm.specs.Polarity.{conjunction}
 use Rattle.qe_norm.proofs.Numbers.{eqb_apart}
+use Rattle.qe_norm.proofs.Opened.{agreeing, free_connected}
 use Rattle.qe_norm.proofs.Binders.{IsIn, in_left, in_right, Binds, BindsIn, IsReady, AreReady}
 
 -- the formula under quantifiers, the first outermost
@@ -214,21 +218,18 @@ free_prenexes fs z r m is o =
 
 -- ---- the whole formula
 
-and_made : (b : Bool) (f : Formula) (fs : Formulas) (p : Point) → Joint b (Is f b p) (Is (formula.And fs) b p) → Is (formula.And (more f fs)) b p
-and_made true f fs p t = t
-and_made false f fs p t = t
+-- a part joins the others, under And, or under Or where the polarity is negative
+joined : (c : Polarity) (b : Bool) (f : Formula) (fs : Formulas) (p : Point) → Joint (agreeing c b) (Is f b p) (Is (conjunction c fs) b p) → Is (conjunction c (more f fs)) b p
+joined Positive true f fs p t = t
+joined Positive false f fs p t = t
+joined Negative true f fs p t = t
+joined Negative false f fs p t = t
 
-and_parts : (b : Bool) (f : Formula) (fs : Formulas) (p : Point) → Is (formula.And (more f fs)) b p → Joint b (Is f b p) (Is (formula.And fs) b p)
-and_parts true f fs p t = t
-and_parts false f fs p t = t
-
-or_made : (b : Bool) (f : Formula) (fs : Formulas) (p : Point) → Joint (not b) (Is f b p) (Is (formula.Or fs) b p) → Is (formula.Or (more f fs)) b p
-or_made true f fs p t = t
-or_made false f fs p t = t
-
-or_parts : (b : Bool) (f : Formula) (fs : Formulas) (p : Point) → Is (formula.Or (more f fs)) b p → Joint (not b) (Is f b p) (Is (formula.Or fs) b p)
-or_parts true f fs p t = t
-or_parts false f fs p t = t
+parted : (c : Polarity) (b : Bool) (f : Formula) (fs : Formulas) (p : Point) → Is (conjunction c (more f fs)) b p → Joint (agreeing c b) (Is f b p) (Is (conjunction c fs) b p)
+parted Positive true f fs p t = t
+parted Positive false f fs p t = t
+parted Negative true f fs p t = t
+parted Negative false f fs p t = t
 
 joint_moved : (j : Bool) (A B C D : Type 0) → (A → C) → (B → D) → Joint j A B → Joint j C D
 joint_moved true A B C D p q t = (p t.0, q t.1)
@@ -243,8 +244,8 @@ mutual
   outwards formula.True r a b p t = t
   outwards formula.False r a b p t = t
   outwards (formula.Atom c) r a b p t = t
-  outwards (formula.And fs) r a b p t = and_outwards fs r a b p t
-  outwards (formula.Or fs) r a b p t = or_outwards fs r a b p t
+  outwards (formula.And fs) r a b p t = parts_outwards Positive fs r a b p t
+  outwards (formula.Or fs) r a b p t = parts_outwards Negative fs r a b p t
   outwards (formula.Not f) r a b p t = absurd r
   outwards (formula.Implies f g) r a b p t = absurd r
   outwards (formula.Iff f g) r a b p t = absurd r
@@ -253,20 +254,11 @@ mutual
   outwards (formula.All x f) r a true p t = λ v k. outwards f r.1 a.1 true ((x, v) ∷ p) (t v k)
   outwards (formula.All x f) r a false p t = (t.0, t.1, outwards f r.1 a.1 false ((x, t.0) ∷ p) t.2)
 
-  and_outwards : (fs : Formulas) → AreReady fs → AreApart fs → (b : Bool) (p : Point) → Is (formula.And fs) b p → Is (under (prefix_each fs) (formula.And (matrix_each fs))) b p
-  and_outwards no_more r a b p t = t
-  and_outwards (more f fs) r a b p t =
-      out_both b b (formula.And (more (matrix f) (matrix_each fs))) (matrix f) (formula.And (matrix_each fs)) (λ q h. and_made b (matrix f) (matrix_each fs) q h) (prefix f) (prefix_each fs)
-      (λ z i o. (a.2).0 z (prefix_binds f z r.0 i) (inl (free_prenexes fs z r.1 (formula.And (matrix_each fs)) (λ h. h) o)))
+  parts_outwards : (c : Polarity) (fs : Formulas) → AreReady fs → AreApart fs → (b : Bool) (p : Point) → Is (conjunction c fs) b p → Is (under (prefix_each fs) (conjunction c (matrix_each fs))) b p
+  parts_outwards c no_more r a b p t = t
+  parts_outwards c (more f fs) r a b p t =
+      out_both (agreeing c b) b (conjunction c (more (matrix f) (matrix_each fs))) (matrix f) (conjunction c (matrix_each fs)) (λ q h. joined c b (matrix f) (matrix_each fs) q h) (prefix f) (prefix_each fs)
+      (λ z i o. (a.2).0 z (prefix_binds f z r.0 i) (inl (free_prenexes fs z r.1 (conjunction c (matrix_each fs)) (λ h. free_connected c (matrix_each fs) z h) o)))
       (λ z i o. apart_right f fs z r a.2 i o) p
-      (joint_moved b (Is f b p) (Is (formula.And fs) b p) (Is (under (prefix f) (matrix f)) b p) (Is (under (prefix_each fs) (formula.And (matrix_each fs))) b p)
-      (λ h. outwards f r.0 a.0 b p h) (λ h. and_outwards fs r.1 a.1 b p h) (and_parts b f fs p t))
-
-  or_outwards : (fs : Formulas) → AreReady fs → AreApart fs → (b : Bool) (p : Point) → Is (formula.Or fs) b p → Is (under (prefix_each fs) (formula.Or (matrix_each fs))) b p
-  or_outwards no_more r a b p t = t
-  or_outwards (more f fs) r a b p t =
-      out_both (not b) b (formula.Or (more (matrix f) (matrix_each fs))) (matrix f) (formula.Or (matrix_each fs)) (λ q h. or_made b (matrix f) (matrix_each fs) q h) (prefix f) (prefix_each fs)
-      (λ z i o. (a.2).0 z (prefix_binds f z r.0 i) (inl (free_prenexes fs z r.1 (formula.Or (matrix_each fs)) (λ h. h) o)))
-      (λ z i o. apart_right f fs z r a.2 i o) p
-      (joint_moved (not b) (Is f b p) (Is (formula.Or fs) b p) (Is (under (prefix f) (matrix f)) b p) (Is (under (prefix_each fs) (formula.Or (matrix_each fs))) b p)
-      (λ h. outwards f r.0 a.0 b p h) (λ h. or_outwards fs r.1 a.1 b p h) (or_parts b f fs p t))
+      (joint_moved (agreeing c b) (Is f b p) (Is (conjunction c fs) b p) (Is (under (prefix f) (matrix f)) b p) (Is (under (prefix_each fs) (conjunction c (matrix_each fs))) b p)
+      (λ h. outwards f r.0 a.0 b p h) (λ h. parts_outwards c fs r.1 a.1 b p h) (parted c b f fs p t))

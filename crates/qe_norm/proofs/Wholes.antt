@@ -21,7 +21,7 @@ use Rattle.qe_norm.specs.Polarity.{flipped, existential}
 use Rattle.qe_norm.specs.NormalForm.{normal_form}
 use Rattle.qe_norm.specs.Numbering.{Walked, is_copy, named_again, met_first, to_copy, numbered, start}
 use Rattle.qe_norm.specs.Blocks.{prefix, matrix}
-use Rattle.qe_form.specs.Blocks.{under_blocks, bound_by}
+use Rattle.qe_form.specs.Blocks.{QuantifierKind, exists, for_all, under_one, under_blocks, bound_by}
 use Rattle.qe_norm.specs.Prenex.{numbered_form, prenex_size, IsPrenexOf, stands_for, IsWellNumbered}
 use Rattle.qe_norm.proofs.Opened.{normal_form_is, free_normal, normal_is_same, decided_normal}
 use Rattle.qe_norm.proofs.Binders.{in_either, contained, contains, Binds, BindsIn, nested, binds_normal, ready}
@@ -106,19 +106,15 @@ module _ (n : ℕ) (Bound : ℕ → Type 0) (below : (z : ℕ) → Bound z → z
     rest_new z h = get_or-set_other w.met x z true false (λ e. fits.ready.0 (subst (λ i. Binds i f) e h)) ∙ new z (inr h)
 
     -- with the test of a copy decided
-    abbrev ex_at : Bool → Formula
-    ex_at b = (let r = numbered f (cond b ([] ++ to_copy w x ∷ []) []) (cond {A = Walked} b (named_again w x) (met_first w x)) in
-        Ex (cond b (length w.names) x) (under (prefix r.0) (matrix r.0)))
-
-    abbrev all_at : Bool → Formula
-    all_at b = (let r = numbered f (cond b ([] ++ to_copy w x ∷ []) []) (cond {A = Walked} b (named_again w x) (met_first w x)) in
-        ForAll (cond b (length w.names) x) (under (prefix r.0) (matrix r.0)))
+    abbrev at : QuantifierKind → Bool → Formula
+    at k b = (let r = numbered f (cond b ([] ++ to_copy w x ∷ []) []) (cond {A = Walked} b (named_again w x) (met_first w x)) in
+        under_one k (cond b (length w.names) x) (under (prefix r.0) (matrix r.0)))
 
     under_ex : Same f (outside f (met_first w x)) → Same (Ex x f) (outside (Ex x f) w)
-    under_ex s = subst (λ b. Same (Ex x f) (ex_at b)) (sym copy) (same_is_kept.under_ex x f (outside f (met_first w x)) s)
+    under_ex s = subst (λ b. Same (Ex x f) (at exists b)) (sym copy) (same_is_kept.under_ex x f (outside f (met_first w x)) s)
 
     under_all : Same f (outside f (met_first w x)) → Same (ForAll x f) (outside (ForAll x f) w)
-    under_all s = subst (λ b. Same (ForAll x f) (all_at b)) (sym copy) (same_is_kept.under_all x f (outside f (met_first w x)) s)
+    under_all s = subst (λ b. Same (ForAll x f) (at for_all b)) (sym copy) (same_is_kept.under_all x f (outside f (met_first w x)) s)
 
   of_decided : (f : Formula) (w : Walked) → Fits n Bound below f [] w → IsDecided f → Same f (outside f w)
   of_decided f w fits settled = preserves_is_same f (outside f w) settled (outside_preserves f w fits)

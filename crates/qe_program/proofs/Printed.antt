@@ -1,6 +1,6 @@
 -- A formula is printed by the names of its free variables, and the walk to the prenex form only adds names.
 use Rattle.std.proofs.Common.{ℕ, ◌≡◌, ◌∙◌, ◌<◌, refl, sym, ap, inl, inr, Bool, true, false, cond, List, [], ◌∷◌, ◌++◌, length}
-use Rattle.std.specs.Prelude.{◌==◌, if◌then◌else◌, int_lt, pos, unsigned_abs, codes, decimal, slice_get, slice_set, unwrap_or}
+use Rattle.std.specs.Prelude.{◌==◌, if◌then◌else◌, int_lt, pos, unsigned_abs, codes, decimal, slice_get, unwrap_or}
 use Rattle.std.proofs.lemmas.List.{get_or_append_left, append_assoc, append-nil}
 use Rattle.std.proofs.lemmas.Option.{unwrap_or-slice_get}
 use Rattle.qe_poly.specs.declared.monomial.Power.{Power}
@@ -106,9 +106,9 @@ goes_on_from names between all first next =
 
 names_after : (w : Walked) (x : ℕ) → GoesOn w.names (met_after w x).names
 names_after w x = elim (is_copy w x) as (λ b. GoesOn w.names (cond {A = Walked} b (named_again w x) (met_first w x)).names) [
-      | true ↦ (unwrap_or (slice_get w.names x) [] ∷ [], refl)
-      | false ↦ ([], sym (append-nil w.names))
-    ]
+  | true ↦ (unwrap_or (slice_get w.names x) [] ∷ [], refl)
+  | false ↦ ([], sym (append-nil w.names))
+]
 
 mutual
   names_numbered : (f : Formula) (rs : List Renaming) (w : Walked) → GoesOn w.names (numbered f rs w).1.names
