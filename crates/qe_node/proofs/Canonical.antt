@@ -12,21 +12,24 @@ use Rattle.qe_poly.proofs.Derivatives.{IsPolynomial-derivative}
 use Rattle.qe_poly.proofs.Constants.{IsPolynomial-constant}
 use Rattle.qe_form.specs.declared.form.Atom as atom
 use Rattle.qe_form.specs.declared.signs.Signs.{Signs}
+use Rattle.qe_form.specs.Making.{constant}
+use Rattle.qe_form.specs.Signs.{equal, not_equal, strict, is_even}
 use Rattle.qe_form.specs.Formula.{Formula, Formulas, True, False, Atom, And, Or, Not, Implies, Iff, Ex, All, no_more, more}
 use Rattle.qe_form.specs.Plain.{ArePlainWith}
 use Rattle.qe_root.specs.declared.point.RootPoint.{RootPoint}
 use Rattle.qe_root.specs.declared.point.Point.{Point}
 use Rattle.qe_root.specs.declared.point.Point.TheVariants.{Root, RootPlus, MinusInf}
-use Rattle.qe_root.specs.Outcome.{is_zero}
+use Rattle.qe_poly.specs.Numbers.{is_zero, is_negative}
 use Rattle.qe_root.specs.Value.{triple, square, plain_part, root_part, plain_part_of, root_part_of}
-use Rattle.qe_root.specs.Shape.{Shape, both, either, formula}
+use Rattle.qe_root.specs.Shape.{Shape, conjunction, disjunction, formula}
 use Rattle.qe_root.specs.Shape as shape
-use Rattle.qe_root.specs.SignForm.{equal, not_equal, sign_shape, norm, sign_formula}
+use Rattle.qe_root.proofs.Shapes.{EachOf, shape_each}
+use Rattle.qe_root.specs.SignForm.{sign_shape, norm, sign_formula}
 use Rattle.qe_points.specs.declared.candidate.Which.{Which}
 use Rattle.qe_points.specs.declared.candidate.Which.TheVariants.{Linear, Upper, Lower}
 use Rattle.qe_points.specs.declared.candidate.Candidate.{Candidate}
 use Rattle.qe_points.specs.declared.candidate.Candidate.TheVariants as candidate
-use Rattle.qe_points.specs.Guard.{guard, point_of, discriminant, is_negative, turned, root, at_root}
+use Rattle.qe_points.specs.Guard.{guard, point_of, discriminant, turned, root_of_kind, at_or_above}
 use Rattle.qe_points.specs.Guarded.{own}
 use Rattle.qe_subst.specs.Substituted as spec
 use Rattle.qe_tree.specs.Sound.{IsFine}
@@ -69,27 +72,10 @@ module _ (k : RootPoint) (h : IsRoot k) where
 
 -- ---- shapes of formulas
 
--- P holds of each X of a shape
-abbrev EachOf : {X : Type 0} → (X → Type 0) → Shape X → Type 0
-EachOf P (shape.atom a signs) = P a
-EachOf P (both f g) = EachOf P f × EachOf P g
-EachOf P (either f g) = EachOf P f × EachOf P g
-
 formula_fine : (f : Shape Polynomial) → EachOf IsPolynomial f → IsFine (formula f)
 formula_fine (shape.atom a signs) h = h
-formula_fine (both f g) h = (formula_fine f h.0, (formula_fine g h.1, tt))
-formula_fine (either f g) h = (formula_fine f h.0, (formula_fine g h.1, tt))
-
-module _ {X : Type 0} (P : X → Type 0) (opposite : X → X) (a b e n : X) (ha : P a) (hb : P b) (he : P e) (hn : P n) (ta : P (opposite a)) (tb : P (opposite b)) where
-  shape_each : (minus zero plus : Bool) → EachOf P (sign_shape opposite (record { minus = minus; zero = zero; plus = plus }) a b e n)
-  shape_each true true true = (he, hn)
-  shape_each true false true = (he, hn)
-  shape_each true true false = ((ha, hn), (hb, hn))
-  shape_each true false false = ((ha, hn), (hb, (ha, hn)))
-  shape_each false true true = ((ta, hn), (tb, hn))
-  shape_each false false true = ((ta, hn), (tb, (ta, hn)))
-  shape_each false true false = (he, hn)
-  shape_each false false false = (he, hn)
+formula_fine (conjunction f g) h = (formula_fine f h.0, (formula_fine g h.1, tt))
+formula_fine (disjunction f g) h = (formula_fine f h.0, (formula_fine g h.1, tt))
 
 norm_fine : (a b r : Polynomial) → IsPolynomial a → IsPolynomial b → IsPolynomial r → IsPolynomial (norm a b r)
 norm_fine a b r ha hb hr = IsPolynomial-difference (product a a) (triple b b r) (IsPolynomial-product a a ha ha) (IsPolynomial-triple b b r hb hb hr)
@@ -101,11 +87,11 @@ sign_formula_fine a b r signs ha hb hr = by_zero (is_zero b)
     by_zero true = ha
     by_zero false =
         formula_fine (sign_shape negative signs a b (product a b) (norm a b r))
-        (shape_each IsPolynomial negative a b (product a b) (norm a b r) ha hb (IsPolynomial-product a b ha hb) (norm_fine a b r ha hb hr) (IsPolynomial-negative a ha) (IsPolynomial-negative b hb) signs.minus signs.zero signs.plus)
+        (shape_each IsPolynomial negative a b (product a b) (norm a b r) ha hb (IsPolynomial-product a b ha hb) (norm_fine a b r ha hb hr) (IsPolynomial-negative a ha) (IsPolynomial-negative b hb) signs)
 
 -- ---- a formula at a point
 
-constant_fine : (b : Bool) → IsFine (spec.constant b)
+constant_fine : (b : Bool) → IsFine (constant b)
 constant_fine true = tt
 constant_fine false = tt
 
@@ -120,7 +106,7 @@ module _ (x : ℕ) where
   module _ (own : Option Polynomial) (k : RootPoint) (root : IsRoot k) where
     at_root_fine : (f : Polynomial) (signs : Signs) → IsPolynomial f → IsFine (spec.at_root x own k f signs)
     at_root_fine f signs h =
-        fine_if (spec.is_own own f) (spec.constant signs.zero) (sign_formula (plain_part_of f x k) (root_part_of f x k) k.r signs) (constant_fine signs.zero)
+        fine_if (spec.is_own own f) (constant signs.zero) (sign_formula (plain_part_of f x k) (root_part_of f x k) k.r signs) (constant_fine signs.zero)
         (sign_formula_fine (plain_part_of f x k) (root_part_of f x k) k.r signs
         (IsPolynomial-plain_part k root (coefficient_in x 2 f) (coefficient_in x 1 f) (coefficient_in x 0 f) (coefficient 2 f h) (coefficient 1 f h) (coefficient 0 f h))
         (IsPolynomial-root_part k root (coefficient_in x 2 f) (coefficient_in x 1 f) (coefficient_in x 0 f) (coefficient 2 f h) (coefficient 1 f h) (coefficient 0 f h)) root.r)
@@ -128,7 +114,7 @@ module _ (x : ℕ) where
     near_fine : (n : ℕ) (f : Polynomial) (signs : Signs) → IsPolynomial f → IsFine (spec.near x own k n f signs)
     near_fine zero f signs h = h
     near_fine (suc n) f signs h =
-        (at_root_fine f (spec.strict signs) h, ((at_root_fine f equal h, (near_fine n (derivative x f) signs (IsPolynomial-derivative x f h), tt)), tt))
+        (at_root_fine f (strict signs) h, ((at_root_fine f equal h, (near_fine n (derivative x f) signs (IsPolynomial-derivative x f h), tt)), tt))
 
   each_coefficient_fine : (n : ℕ) (f : Polynomial) (signs : Signs) → IsPolynomial f → ArePlainWith (λ a. IsPolynomial a.poly) (spec.each_coefficient x n f signs)
   each_coefficient_fine zero f signs h = (coefficient zero f h, tt)
@@ -138,20 +124,20 @@ module _ (x : ℕ) where
   everywhere_fine f signs h =
       fine_if signs.zero (And (spec.each_coefficient x (degree_in x f) f signs)) (Or (spec.each_coefficient x (degree_in x f) f signs)) (each_coefficient_fine (degree_in x f) f signs h) (each_coefficient_fine (degree_in x f) f signs h)
 
-  below_fine : (f : Polynomial) (signs : Signs) → IsPolynomial f → IsFine (cond (eqb (degree_in x f) 1) (spec.line_below x f signs) (spec.square_below x f signs))
+  below_fine : (f : Polynomial) (signs : Signs) → IsPolynomial f → IsFine (cond (eqb (degree_in x f) 1) (spec.line_below x f signs) (spec.quadratic_below x f signs))
   below_fine f signs h =
       let c0 = coefficient 0 f h in
       let c1 = coefficient 1 f h in
       let c2 = coefficient 2 f h in
-      fine_if (eqb (degree_in x f) 1) (spec.line_below x f signs) (spec.square_below x f signs)
+      fine_if (eqb (degree_in x f) 1) (spec.line_below x f signs) (spec.quadratic_below x f signs)
       (c1, ((c1, (c0, tt)), tt))
       (c2, ((c2, (c1, tt)), ((c2, (c1, (c0, tt))), tt)))
 
   at_point_fine : (point : Point) (own : Option Polynomial) → IsTestPoint point → (f : Polynomial) (signs : Signs) → IsPolynomial f → IsFine (spec.at_point x point own f signs)
   at_point_fine (Root k) own root f signs h = at_root_fine own k root f signs h
   at_point_fine (RootPlus k) own root f signs h =
-      fine_if (spec.is_even signs) (spec.everywhere x f signs) (spec.near x own k (degree_in x f) f signs) (everywhere_fine f signs h) (near_fine own k root (degree_in x f) f signs h)
-  at_point_fine MinusInf own root f signs h = fine_if (spec.is_even signs) (spec.everywhere x f signs) (cond (eqb (degree_in x f) 1) (spec.line_below x f signs) (spec.square_below x f signs)) (everywhere_fine f signs h) (below_fine f signs h)
+      fine_if (is_even signs) (spec.everywhere x f signs) (spec.near x own k (degree_in x f) f signs) (everywhere_fine f signs h) (near_fine own k root (degree_in x f) f signs h)
+  at_point_fine MinusInf own root f signs h = fine_if (is_even signs) (spec.everywhere x f signs) (cond (eqb (degree_in x f) 1) (spec.line_below x f signs) (spec.quadratic_below x f signs)) (everywhere_fine f signs h) (below_fine f signs h)
 
   module _ (point : Point) (own : Option Polynomial) (test : IsTestPoint point) where
     for_atom_fine : (a : atom.Atom) → IsPolynomial a.poly → IsFine (spec.for_atom x point own a)
@@ -188,7 +174,7 @@ module _ (x : ℕ) (f : Polynomial) (h : IsPolynomial f) where
       (IsPolynomial-product (coefficient_in x 1 f) (coefficient_in x 1 f) (coefficient x 1 f h) (coefficient x 1 f h))
       (IsPolynomial-scaled (pos 4) (product (coefficient_in x 2 f) (coefficient_in x 0 f)) (IsPolynomial-product (coefficient_in x 2 f) (coefficient_in x 0 f) (coefficient x 2 f h) (coefficient x 0 f h)))
 
-  root_fine : (which : Which) → IsRoot (root x f which)
+  root_fine : (which : Which) → IsRoot (root_of_kind x f which)
   root_fine Linear = record { p = IsPolynomial-negative (coefficient_in x 0 f) (coefficient x 0 f h); q = tt; r = tt; s = coefficient x 1 f h }
   root_fine Upper = record {
     p = IsPolynomial-negative (coefficient_in x 1 f) (coefficient x 1 f h);
@@ -219,12 +205,12 @@ turned_fine k h = by_sign (is_negative k.s)
     by_sign true = record { p = IsPolynomial-negative k.p h.p; q = IsPolynomial-negative k.q h.q; r = h.r; s = IsPolynomial-negative k.s h.s }
     by_sign false = h
 
-at_root_test : (plus : Bool) (k : RootPoint) → IsRoot k → IsTestPoint (at_root plus k)
+at_root_test : (plus : Bool) (k : RootPoint) → IsRoot k → IsTestPoint (at_or_above plus k)
 at_root_test true k h = h
 at_root_test false k h = h
 
 pub point_fine : (x : ℕ) (c : Candidate) → IsOverPolynomial c → IsTestPoint (point_of x c)
-point_fine x (candidate.Root f n which plus) h = at_root_test plus (turned (root x f which)) (turned_fine (root x f which) (root_fine x f h which))
+point_fine x (candidate.Root f n which plus) h = at_root_test plus (turned (root_of_kind x f which)) (turned_fine (root_of_kind x f which) (root_fine x f h which))
 point_fine x candidate.MinusInf h = tt
 
 pub guard_of_fine : (x : ℕ) (c : Candidate) → IsOverPolynomial c → IsFine (guard x c)

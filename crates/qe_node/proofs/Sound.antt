@@ -21,14 +21,13 @@ use Rattle.qe_points.specs.declared.candidate.Candidate.{Candidate}
 use Rattle.qe_points.specs.declared.candidate.Candidate.TheVariants.{Root, MinusInf}
 use Rattle.qe_points.specs.Choice.{choice, IsOneOf}
 use Rattle.qe_points.specs.Candidates.{candidates}
-use Rattle.qe_points.specs.Guard.{guard, root_guard, point_of, root}
-use Rattle.qe_points.specs.Guarded.{HasRoot, own, IsSound, IsOf, OccursInOwn, OccursInPoint}
+use Rattle.qe_points.specs.Guard.{guard, root_guard, point_of, root_of_kind}
+use Rattle.qe_points.specs.Guarded.{HasRoot, own, IsSound, IsOf, OccursInOwn}
 use Rattle.qe_points.specs.Complete.{IsComplete}
 use Rattle.qe_points.proofs.Choosing.{choice_is}
 use Rattle.qe_points.proofs.Members as members
 use Rattle.qe_points.proofs.Enough.{is_of, made_complete}
 use Rattle.qe_points.proofs.Sound.{made_sound}
-use Rattle.qe_subst.specs.Left.{OccursAt}
 use Rattle.qe_subst.specs.Stop.{stop}
 use Rattle.qe_subst.proofs.Truth.{substituted_means}
 use Rattle.qe_subst.proofs.LeftOver.{made_left}
@@ -82,7 +81,7 @@ both_each P Q R join (x ∷ xs) h k = (join x h.0 k.0, both_each P Q R join xs h
 sound_candidate : (x : ℕ) (c : Candidate) → HasRoot x c → IsOverPolynomial c → IsSound x c (simplified (guard x c)) (point_of x c)
 sound_candidate x (Root q n kind plus) has over =
     let fine = guard_of_fine x (Root q n kind plus) over in
-    made_sound x q n kind plus (root_guard x q kind) (simplified (root_guard x q kind)) (point_of x (Root q n kind plus)) (root x q kind) over has refl refl refl
+    made_sound x q n kind plus (root_guard x q kind) (simplified (root_guard x q kind)) (point_of x (Root q n kind plus)) (root_of_kind x q kind) over has refl refl refl
     (fine_keeps (root_guard x q kind) fine) (λ plain. fine_simplified (root_guard x q kind) fine)
 sound_candidate x MinusInf has over = record {
   plain = tt;
@@ -90,11 +89,6 @@ sound_candidate x MinusInf has over = record {
   guard-free = λ y h. absurd h;
   point-free = λ y h. absurd h;
 }
-
-in_point : (y : ℕ) (p : code.Point) → OccursAt y p → OccursInPoint y p
-in_point y (point.Root k) h = h
-in_point y (point.RootPlus k) h = h
-in_point y point.MinusInf h = h
 
 complete : (x : ℕ) (f : Formula) → IsFine f → degree x f ≤ 2 → IsComplete x f (candidates x f)
 complete x f fine low =
@@ -137,7 +131,7 @@ module _ (x : ℕ) (f : Formula) (fine : IsFine f) (proper : IsPlainAndProper f)
       | inr rest ↦ elim rest [
         | inl in_form ↦ elim (made_left x (point_of x c) (own c) f (at_candidate x f c) fine refl y in_form) [
           | inl stays ↦ ((occurring_is_free y f none).1 stays.1, stays.0)
-          | inr at ↦ own_has y (usable.guarded.point-free y (in_point y (point_of x c) at))
+          | inr at ↦ own_has y (usable.guarded.point-free y at)
         ]
         | inr none ↦ absurd none
       ]

@@ -18,7 +18,8 @@ use Rattle.qe_root.specs.declared.point.Point.{Point}
 use Rattle.qe_root.specs.declared.stop.SubstStop.{SubstStop}
 use Rattle.qe_root.specs.declared.stop.SubstStop.TheVariants as met
 use Rattle.qe_root.specs.Atoms.{atoms}
-use Rattle.qe_root.specs.SignForm.{equal, not_equal}
+use Rattle.qe_form.specs.Signs.{equal, not_equal}
+use Rattle.qe_halt.specs.Outcome.{or_else}
 use Rattle.qe_points.specs.declared.candidate.Which.TheVariants.{Linear, Upper, Lower}
 use Rattle.qe_points.specs.declared.candidate.Candidate.TheVariants.{Root, MinusInf}
 use Rattle.qe_points.specs.declared.candidate.Candidate.{Candidate}
@@ -26,7 +27,7 @@ use Rattle.qe_points.specs.declared.guard.GuardedPoint.{GuardedPoint}
 use Rattle.qe_points.specs.Guard.{guard, point_of, limit}
 use Rattle.qe_points.specs.Guarded.{own, IsGuarded, IsSound}
 use Rattle.qe_subst.specs.Substituted.{substituted}
-use Rattle.qe_subst.specs.Stop.{first_limit, size_limit, stop}
+use Rattle.qe_subst.specs.Stop.{first_stop, size_limit, stop}
 use Rattle.qe_node.specs.declared.trial.Trial.{Trial}
 use Rattle.qe_form.specs.Making.{is_false}
 use Rattle.qe_node.specs.Successors.{skipped, put_in, after_limit, tried}
@@ -63,12 +64,12 @@ no_size_limit n none = by (ltb 65536 n) refl none
     by true test e = absurd (cc)
     by false test e = grind (arith, nat_tests)
 
-after_first : (o rest : Option SubstStop) → ◌≡◌ {A = Option SubstStop} (elim o [ Some s ↦ Some s | None ↦ rest ]) None → rest ≡ None
+after_first : (o rest : Option SubstStop) → or_else o rest ≡ None → rest ≡ None
 after_first (Some s) rest none = absurd (cc)
 after_first None rest none = none
 
 pub substituted_small : (x : ℕ) (p : Point) (from : Option Polynomial) (f : Formula) → stop x p from f ≡ None → count (substituted x p from f) ≤ 65536
-substituted_small x p from f none = no_size_limit (count (substituted x p from f)) (after_first (first_limit x p from 0 (atoms f)) (size_limit x p from f) none)
+substituted_small x p from f none = no_size_limit (count (substituted x p from f)) (after_first (first_stop x p from 0 (atoms f)) (size_limit x p from f) none)
 
 pub proper_plain : (f : Formula) → IsPlainAndProper f → IsPlain f
 proper_plain f h = plain_weaker (λ a. IsProper a.signs) (λ a. Unit {0}) (λ a k. tt) f h

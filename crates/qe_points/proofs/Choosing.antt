@@ -3,23 +3,15 @@ use Rattle.std.proofs.Common.{ℕ, zero, suc, ◌≡◌, ◌∙◌, ◌<◌, ◌
 use Rattle.std.proofs.lemmas.List.{drop_all}
 use Rattle.std.proofs.lemmas.Bool.{eqb-true}
 use Rattle.std.proofs.lemmas.Bool.Decides.{nat_tests}
+use Rattle.qe_halt.specs.Outcome.{or_else}
+use Rattle.qe_ring.proofs.Bools.{number_tells, fails}
 use Rattle.qe_poly.specs.declared.monomial.Var.{Var}
 use Rattle.qe_form.specs.Formula.{Formula}
 use Rattle.qe_form.specs.Measures.{degree}
-use Rattle.qe_points.specs.Choice.{first_of_degree, or_else, choice, IsOneOf, AllAreHigh}
-
-same_test : (d n : ℕ) → d ≡ n → eqb d n ≡ true
-same_test d n same = grind (arith, nat_tests)
+use Rattle.qe_points.specs.Choice.{first_of_degree, choice, IsOneOf, AllAreHigh}
 
 other_test : (d n : ℕ) → (d ≡ n → ⊥) → eqb d n ≡ false
-other_test d n other = by (eqb d n) refl
-  where
-    by : (b : Bool) → eqb d n ≡ b → b ≡ false
-    by true test = absurd (other (eqb-true d n test))
-    by false test = refl
-
-no_test : (d n : ℕ) → eqb d n ≡ false → d ≡ n → ⊥
-no_test d n test same = grind (arith, nat_tests)
+other_test d n other = fails (eqb d n) (number_tells d n) other
 
 -- ---- what is left of the list decides, with the variable found so far, in which the degree is `least`
 
@@ -46,7 +38,7 @@ going_last f (suc (suc (suc n))) chosen = refl
 
 module _ (f : Formula) (v : Var) (vs : List Var) where
   hit : (n : ℕ) → degree v.0 f ≡ n → first_of_degree f n (v ∷ vs) ≡ Some v
-  hit n same = ap (λ b. cond b (Some v) (first_of_degree f n vs)) (same_test (degree v.0 f) n same)
+  hit n same = ap (λ b. cond b (Some v) (first_of_degree f n vs)) ((number_tells (degree v.0 f) n).1 same)
 
   miss : (n d : ℕ) → degree v.0 f ≡ d → (d ≡ n → ⊥) → first_of_degree f n (v ∷ vs) ≡ first_of_degree f n vs
   miss n d same other = ap (λ b. cond b (Some v) (first_of_degree f n vs)) (other_test (degree v.0 f) n (λ e. other (sym same ∙ e)))
@@ -130,12 +122,15 @@ none_of_both : (o rest : Option Var) → or_else o rest ≡ None → (o ≡ None
 none_of_both (Some v) rest none = absurd (cc)
 none_of_both None rest none = (refl, none)
 
+not_equal : (d n : ℕ) → eqb d n ≡ false → d ≡ n → ⊥
+not_equal d n test same = grind (arith, nat_tests)
+
 not_first : (f : Formula) (n : ℕ) (v : Var) (vs : List Var) → first_of_degree f n (v ∷ vs) ≡ None → (degree v.0 f ≡ n → ⊥) × (first_of_degree f n vs ≡ None)
 not_first f n v vs none = by (eqb (degree v.0 f) n) refl none
   where
     by : (b : Bool) → eqb (degree v.0 f) n ≡ b → cond b (Some v) (first_of_degree f n vs) ≡ None → (degree v.0 f ≡ n → ⊥) × (first_of_degree f n vs ≡ None)
     by true test e = absurd (cc)
-    by false test e = ((λ same. no_test (degree v.0 f) n test same), e)
+    by false test e = ((λ same. not_equal (degree v.0 f) n test same), e)
 
 -- without one, each has a degree over two
 pub all_high : (f : Formula) (vs : List Var) → first_of_degree f 0 vs ≡ None → first_of_degree f 1 vs ≡ None → first_of_degree f 2 vs ≡ None → AllAreHigh f vs

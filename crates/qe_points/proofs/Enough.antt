@@ -16,25 +16,26 @@ use Rattle.qe_poly.specs.Coefficients.{degree_in}
 use Rattle.qe_form.specs.declared.form.Atom as atom
 use Rattle.qe_form.specs.Formula.{Formula, Formulas, True, False, Atom, And, Or, Ex, no_more, more}
 use Rattle.qe_form.specs.Measures.{degree, degree_of_some}
-use Rattle.qe_form.specs.Plain.{IsPlain, IsPlainWith, ArePlainWith}
+use Rattle.qe_form.specs.Plain.{IsPlain, ArePlainWith}
 use Rattle.qe_form.specs.Same.{IsFree, IsFreeInSome}
 use Rattle.qe_poly.specs.Occurs.{OccursInSome}
 use Rattle.qe_form.specs.Truth.{Is}
 use Rattle.qe_form.proofs.TwoSides.{never_both, decided}
 use Rattle.qe_simp.proofs.Shapes.{plain_no_quantifier}
-use Rattle.qe_root.specs.Atoms.{atoms, atoms_of}
+use Rattle.qe_root.specs.Atoms.{atoms, atoms_of, HasCanonicalAtoms, HaveCanonicalAtoms}
 use Rattle.qe_root.specs.Holds.{StandsAt, IsLess}
 use Rattle.qe_points.specs.declared.candidate.Which.{Which}
 use Rattle.qe_points.specs.declared.candidate.Which.TheVariants.{Linear, Upper, Lower}
 use Rattle.qe_points.specs.declared.candidate.Candidate.{Candidate}
 use Rattle.qe_points.specs.declared.candidate.Candidate.TheVariants.{Root, MinusInf}
 use Rattle.qe_points.specs.Candidates.{Numbered, gives, numbered, distinct, roots_of, roots, candidates}
-use Rattle.qe_points.specs.Guard.{guard, turned, root, point_of}
-use Rattle.qe_points.specs.Guarded.{Fits, IsOf}
+use Rattle.qe_points.specs.Guard.{guard, turned, root_of_kind, point_of}
+use Rattle.qe_points.specs.Guarded.{HasKind, IsOf}
 use Rattle.qe_points.specs.Complete.{HoldsAtCandidate, HoldsAtOne, IsComplete}
 use Rattle.qe_points.proofs.Members.{IsIn, in_left, in_right, of_append, in_flat, of_flat, of_map, all_in, of_all, in_distinct, of_distinct}
 use Rattle.qe_points.proofs.OnLine.{IsRootOf, atom_reaches, formula_reaches}
-use Rattle.qe_points.proofs.Roots.{IsRootAt, to_value, turned_value, to_root, has_degree, guard_true}
+use Rattle.qe_root.proofs.RootValue.{to_value}
+use Rattle.qe_points.proofs.Roots.{IsRootAt, turned_value, to_root, has_degree, guard_true}
 
 -- ---- the atoms of a formula
 
@@ -105,27 +106,21 @@ in_cond : {X : Type 0} (c : X) (b : Bool) (xs ys : List X) → (b ≡ true → I
 in_cond c true xs ys h k = h refl
 in_cond c false xs ys h k = k refl
 
-in_roots_of : (x : ℕ) (plus : Bool) (g : Numbered) (which : Which) → Fits x g.0 which → IsIn (Root g.0 g.1 which plus) (roots_of x plus g)
+not_one : (n : ℕ) → n ≡ 2 → eqb n 1 ≡ true → ⊥
+not_one n e t = grind (arith, nat_tests)
+
+not_two : (n : ℕ) → n ≡ 2 → eqb n 2 ≡ false → ⊥
+not_two n e t = grind (arith, nat_tests)
+
+in_roots_of : (x : ℕ) (plus : Bool) (g : Numbered) (which : Which) → HasKind x g.0 which → IsIn (Root g.0 g.1 which plus) (roots_of x plus g)
 in_roots_of x plus g Linear fits = in_cond _ (eqb (degree_in x g.0) 1) _ _ (λ t. inl refl) (λ t. in_cond _ (eqb (degree_in x g.0) 2) _ _ (λ u. inl refl) (λ u. absurd (neither (degree_in x g.0) fits.0 fits.1 t u)))
   where
     neither : (n : ℕ) → 0 < n → n ≤ 2 → eqb n 1 ≡ false → eqb n 2 ≡ false → ⊥
     neither n less low t u = grind (arith, nat_tests)
-in_roots_of x plus g Upper fits = in_cond _ (eqb (degree_in x g.0) 1) _ _ (λ t. absurd (not_one (degree_in x g.0) fits t)) (λ t. in_cond _ (eqb (degree_in x g.0) 2) _ _ (λ u. inr (inl refl)) (λ u. absurd (is_two (degree_in x g.0) fits u)))
-  where
-    not_one : (n : ℕ) → n ≡ 2 → eqb n 1 ≡ true → ⊥
-    not_one n e t = grind (arith, nat_tests)
+in_roots_of x plus g Upper fits = in_cond _ (eqb (degree_in x g.0) 1) _ _ (λ t. absurd (not_one (degree_in x g.0) fits t)) (λ t. in_cond _ (eqb (degree_in x g.0) 2) _ _ (λ u. inr (inl refl)) (λ u. absurd (not_two (degree_in x g.0) fits u)))
+in_roots_of x plus g Lower fits = in_cond _ (eqb (degree_in x g.0) 1) _ _ (λ t. absurd (not_one (degree_in x g.0) fits t)) (λ t. in_cond _ (eqb (degree_in x g.0) 2) _ _ (λ u. inr (inr (inl refl))) (λ u. absurd (not_two (degree_in x g.0) fits u)))
 
-    is_two : (n : ℕ) → n ≡ 2 → eqb n 2 ≡ false → ⊥
-    is_two n e t = grind (arith, nat_tests)
-in_roots_of x plus g Lower fits = in_cond _ (eqb (degree_in x g.0) 1) _ _ (λ t. absurd (not_one (degree_in x g.0) fits t)) (λ t. in_cond _ (eqb (degree_in x g.0) 2) _ _ (λ u. inr (inr (inl refl))) (λ u. absurd (is_two (degree_in x g.0) fits u)))
-  where
-    not_one : (n : ℕ) → n ≡ 2 → eqb n 1 ≡ true → ⊥
-    not_one n e t = grind (arith, nat_tests)
-
-    is_two : (n : ℕ) → n ≡ 2 → eqb n 2 ≡ false → ⊥
-    is_two n e t = grind (arith, nat_tests)
-
-of_roots_of : (x : ℕ) (plus : Bool) (g : Numbered) (c : Candidate) → IsIn c (roots_of x plus g) → (which : Which) × (c ≡ Root g.0 g.1 which plus) × Fits x g.0 which
+of_roots_of : (x : ℕ) (plus : Bool) (g : Numbered) (c : Candidate) → IsIn c (roots_of x plus g) → (which : Which) × (c ≡ Root g.0 g.1 which plus) × HasKind x g.0 which
 of_roots_of x plus g c i = one (eqb (degree_in x g.0) 1) refl (eqb (degree_in x g.0) 2) refl i
   where
     is_one : (n : ℕ) → eqb n 1 ≡ true → (0 < n) × (n ≤ 2)
@@ -139,7 +134,7 @@ of_roots_of x plus g c i = one (eqb (degree_in x g.0) 1) refl (eqb (degree_in x 
 
     one : (b : Bool) → eqb (degree_in x g.0) 1 ≡ b → (d : Bool) → eqb (degree_in x g.0) 2 ≡ d
         → IsIn c (cond b (Root g.0 g.1 Linear plus ∷ []) (cond d (Root g.0 g.1 Linear plus ∷ Root g.0 g.1 Upper plus ∷ Root g.0 g.1 Lower plus ∷ []) []))
-        → (which : Which) × (c ≡ Root g.0 g.1 which plus) × Fits x g.0 which
+        → (which : Which) × (c ≡ Root g.0 g.1 which plus) × HasKind x g.0 which
     one true t d u (inl e) = (Linear, sym e, is_one (degree_in x g.0) t)
     one true t d u (inr k) = absurd k
     one false t true u (inl e) = (Linear, sym e, some_of_two (degree_in x g.0) (is_two (degree_in x g.0) u))
@@ -233,15 +228,15 @@ module _ (x : ℕ) (f : Formula) (p : Point) (valid : IsPoint p) where
       above : (n : ℕ) → 0 < n → nat_lt 0 n ≡ true
       above n less = grind (arith, nat_tests)
 
-  positive : (q : Polynomial) (which : Which) → Fits x q which → 0 < degree_in x q
+  positive : (q : Polynomial) (which : Which) → HasKind x q which → 0 < degree_in x q
   positive q Linear fits = fits.0
   positive q Upper fits = omega arith
   positive q Lower fits = omega arith
 
-  at_plain : (g : Numbered) (which : Which) → IsIn g (group x true f) → Fits x g.0 which → IsIn (Root g.0 g.1 which false) (candidates x f)
+  at_plain : (g : Numbered) (which : Which) → IsIn g (group x true f) → HasKind x g.0 which → IsIn (Root g.0 g.1 which false) (candidates x f)
   at_plain g which i fits = in_left _ (roots x false (group x true f)) _ (in_flat (roots_of x false) _ g (group x true f) i (in_roots_of x false g which fits))
 
-  at_plus : (g : Numbered) (which : Which) → IsIn g (group x false f) → Fits x g.0 which → IsIn (Root g.0 g.1 which true) (candidates x f)
+  at_plus : (g : Numbered) (which : Which) → IsIn g (group x false f) → HasKind x g.0 which → IsIn (Root g.0 g.1 which true) (candidates x f)
   at_plus g which i fits = in_right _ (roots x false (group x true f)) _
       (in_left _ (roots x true (group x false f)) (MinusInf ∷ []) (in_flat (roots_of x true) _ g (group x false f) i (in_roots_of x true g which fits)))
 
@@ -250,7 +245,7 @@ module _ (x : ℕ) (f : Formula) (p : Point) (valid : IsPoint p) where
       → IsPlaceOfOne x (candidates x f) f p (root_place a.signs.zero r)
   at_root a i low which r h = by a.signs.zero refl
     where
-      fits : Fits x a.poly which
+      fits : HasKind x a.poly which
       fits = has_degree p valid x a.poly which r low h
 
       by : (zero : Bool) → a.signs.zero ≡ zero → IsPlaceOfOne x (candidates x f) f p (root_place zero r)
@@ -258,17 +253,17 @@ module _ (x : ℕ) (f : Formula) (p : Point) (valid : IsPoint p) where
           let g = in_group true a i (positive a.poly which fits) e in
           let h : IsRootAt p valid x g.0.0 which r = subst (λ q. IsRootAt p valid x q which r) (sym g.2) h in (
             Root g.0.0 g.0.1 which false,
-            at_plain g.0 which g.1 (subst (λ q. Fits x q which) (sym g.2) fits),
+            at_plain g.0 which g.1 (subst (λ q. HasKind x q which) (sym g.2) fits),
             guard_true p valid x g.0.0 which r h,
-            to_value p valid (turned (root x g.0.0 which)) r (turned_value p valid (root x g.0.0 which) r (to_root p valid x g.0.0 which r h)),
+            to_value p valid (turned (root_of_kind x g.0.0 which)) r (turned_value p valid (root_of_kind x g.0.0 which) r (to_root p valid x g.0.0 which r h)),
           )
       by false e =
           let g = in_group false a i (positive a.poly which fits) (ap not e) in
           let h : IsRootAt p valid x g.0.0 which r = subst (λ q. IsRootAt p valid x q which r) (sym g.2) h in (
             Root g.0.0 g.0.1 which true,
-            at_plus g.0 which g.1 (subst (λ q. Fits x q which) (sym g.2) fits),
+            at_plus g.0 which g.1 (subst (λ q. HasKind x q which) (sym g.2) fits),
             guard_true p valid x g.0.0 which r h,
-            to_value p valid (turned (root x g.0.0 which)) r (turned_value p valid (root x g.0.0 which) r (to_root p valid x g.0.0 which r h)),
+            to_value p valid (turned (root_of_kind x g.0.0 which)) r (turned_value p valid (root_of_kind x g.0.0 which) r (to_root p valid x g.0.0 which r h)),
           )
 
   at_each_root : (a : atom.Atom) → IsIn a (atoms f) → degree_in x a.poly ≤ 2 → (r : ValidNumber) → IsRootOf x p valid a.poly r → IsPlaceOfOne x (candidates x f) f p (root_place a.signs.zero r)
@@ -290,7 +285,7 @@ candidates_complete x f plain low canonical = complete_list x f (candidates x f)
 
 -- a plain formula whose atoms are over canonical polynomials is over these
 mutual
-  plain_over : (f : Formula) → IsPlain f → ((a : atom.Atom) → IsIn a (atoms f) → IsPolynomial a.poly) → IsPlainWith (λ a. IsPolynomial a.poly) f
+  plain_over : (f : Formula) → IsPlain f → ((a : atom.Atom) → IsIn a (atoms f) → IsPolynomial a.poly) → HasCanonicalAtoms f
   plain_over True plain over = tt
   plain_over False plain over = tt
   plain_over (Atom a) plain over = over a (inl refl)
@@ -298,7 +293,7 @@ mutual
   plain_over (Or fs) plain over = plain_over_each fs plain over
   plain_over f plain over = absurd plain
 
-  plain_over_each : (fs : Formulas) → ArePlainWith (λ a. Unit {0}) fs → ((a : atom.Atom) → IsIn a (atoms_of fs) → IsPolynomial a.poly) → ArePlainWith (λ a. IsPolynomial a.poly) fs
+  plain_over_each : (fs : Formulas) → ArePlainWith (λ a. Unit {0}) fs → ((a : atom.Atom) → IsIn a (atoms_of fs) → IsPolynomial a.poly) → HaveCanonicalAtoms fs
   plain_over_each no_more plain over = tt
   plain_over_each (more f fs) plain over =
       (plain_over f plain.0 (λ a i. over a (in_left a (atoms f) (atoms_of fs) i)), plain_over_each fs plain.1 (λ a i. over a (in_right a (atoms f) (atoms_of fs) i)))
@@ -310,7 +305,7 @@ module _ {X : Type 0} (shown : X → atom.Atom) (f : Formula) (items : List X) (
       let r = of_map shown a items (subst (IsIn a) (sym all) i) in
       subst (λ b. IsPolynomial b.poly) r.2 (of_all (λ y. IsPolynomial (shown y).poly) items canonical r.0 r.1)
 
-  pub made_canonical : IsPlain f → IsPlainWith (λ a. IsPolynomial a.poly) f
+  pub made_canonical : IsPlain f → HasCanonicalAtoms f
   made_canonical plain = plain_over f plain each_canonical
 
   -- those that are made

@@ -2,7 +2,6 @@ pub mod Choosing
 pub mod Listing
 pub mod Gathering
 pub mod Members
-pub mod Occurring
 pub mod OnLine
 pub mod Roots
 pub mod Enough

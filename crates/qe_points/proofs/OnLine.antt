@@ -1,23 +1,21 @@
 -- Formulas with And and Or over polynomials of degree two at most in one variable, as that variable goes along the line of the numbers.
-use Rattle.std.proofs.Common.{ℕ, ◌≡◌, ◌∙◌, ◌≤◌, inl, inr, refl, sym, ap, subst, Bool, true, false, T, ◌∷◌}
-use Rattle.qe_ring.specs.Sign.{Sign}
-use Rattle.qe_tower.specs.Number.{sign_of, ValidNumber}
+use Rattle.std.proofs.Common.{ℕ, ◌≡◌, ◌∙◌, ◌≤◌, inl, inr, refl, sym, ap, subst, Bool, true, false, T}
+use Rattle.qe_tower.specs.Number.{ValidNumber}
 use Rattle.qe_tower.specs.Point.{Point, IsPoint}
-use Rattle.qe_tower.proofs.ValidNumbers.{valid_operations, valid_sign, valid_ordered}
+use Rattle.qe_tower.proofs.ValidNumbers.{valid_operations, valid_sign}
 use Rattle.qe_line.specs.Place.{Place, below}
 use Rattle.qe_line.specs.Quadratic.{quadratic, IsRoot}
 use Rattle.qe_line.specs.Numbers.{numbers}
 use Rattle.qe_line.proofs.Reach.{root_place, Reach, reach_here, reach_then, reach_both}
 use Rattle.qe_line.proofs.Atoms.{reach_atom}
 use Rattle.qe_poly.specs.Polynomial.{Polynomial, IsPolynomial}
-use Rattle.qe_poly.specs.Coefficients.{degree_in, coefficient_in}
+use Rattle.qe_poly.specs.Coefficients.{degree_in}
 use Rattle.qe_form.specs.declared.form.Atom as atom
 use Rattle.qe_form.specs.Formula.{Formula, Formulas, True, False, Atom, And, Or, Not, Implies, Iff, Ex, All, no_more, more}
-use Rattle.qe_form.specs.Value.{value}
 use Rattle.qe_form.specs.Truth.{has_sign, Is, EachIs, SomeIs}
-use Rattle.qe_form.proofs.Values.{value_valid, value_of_quadratic}
 use Rattle.qe_form.specs.Plain.{IsPlain, ArePlainWith}
 use Rattle.qe_root.specs.Atoms.{atoms, atoms_of}
+use Rattle.qe_root.proofs.OnLine.{at_number, coefficient, sign_with}
 use Rattle.qe_points.proofs.Members.{IsIn, in_left, in_right}
 
 -- two ways to say that a test holds
@@ -29,44 +27,26 @@ of_true : (b : Bool) → b ≡ true → T b
 of_true b h = subst (λ c. T c) (sym h) tt
 
 module _ (x : ℕ) (p : Point) (valid : IsPoint p) where
-  -- the point with x given a number
-  abbrev pub at_number : ValidNumber → Point
-  at_number u = (x, u.0) ∷ p
-
-  -- the value of the coefficient of a power of x at the point
-  abbrev pub coefficient : ℕ → Polynomial → ValidNumber
-  coefficient k q = (value (coefficient_in x k q) p, value_valid p valid (coefficient_in x k q))
-
   -- v is a root of the polynomial in x that has these coefficients at the point
   abbrev pub IsRootOf : Polynomial → ValidNumber → Type 0
-  IsRootOf q v = IsRoot valid_operations valid_sign (coefficient 2 q) (coefficient 1 q) (coefficient 0 q) v
-
-  -- the sign of that quadratic at a number
-  abbrev pub sign_on : Polynomial → ValidNumber → Sign
-  sign_on q v = valid_sign (quadratic valid_operations (coefficient 2 q) (coefficient 1 q) (coefficient 0 q) v)
-
-  -- where x has a number, the polynomial has the sign of the quadratic of its coefficients at the point
-  pub sign_with : (q : Polynomial) → IsPolynomial q → degree_in x q ≤ 2 → (u : ValidNumber)
-      → sign_of (value q (at_number u)) ≡ sign_on q u
-  sign_with q canonical low u = valid_ordered.sign-same (value q (at_number u), value_valid (at_number u) (u.1, valid) q)
-      (quadratic valid_operations (coefficient 2 q) (coefficient 1 q) (coefficient 0 q) u) (value_of_quadratic p valid x u.0 u.1 q canonical low)
+  IsRootOf q v = IsRoot valid_operations valid_sign (coefficient x p valid 2 q) (coefficient x p valid 1 q) (coefficient x p valid 0 q) v
 
   -- ---- how far down from a number a formula is true
 
   module _ (K : Place ValidNumber → Type 0) (low : K below) (v : ValidNumber) where
-    -- where the formula is true at v, it is so down to a place of which K holds
+    -- where the formula is true at v, it is true down to a place of which K holds
     abbrev pub Reaches : Formula → Type 0
-    Reaches f = Is f true (at_number v) → Reach valid_operations valid_sign K v (λ u. Is f true (at_number u))
+    Reaches f = Is f true (at_number x p valid v) → Reach valid_operations valid_sign K v (λ u. Is f true (at_number x p valid u))
 
     -- an atom reaches, where K holds at the roots of its polynomial if zero is allowed, and else just above them
     pub atom_reaches : (a : atom.Atom) → IsPolynomial a.poly → degree_in x a.poly ≤ 2 → ((r : ValidNumber) → IsRootOf a.poly r → K (root_place a.signs.zero r)) → Reaches (Atom a)
     atom_reaches a canonical small roots t = reach_then numbers
-        (reach_atom numbers low (coefficient 2 a.poly) (coefficient 1 a.poly) (coefficient 0 a.poly) (has_sign a.signs) roots v
-        (of_true (has_sign a.signs (valid_sign (value_at v))) (sym (ap (has_sign a.signs) (sign_with a.poly canonical small v)) ∙ t)))
-        (λ u e. ap (has_sign a.signs) (sign_with a.poly canonical small u) ∙ true_of (has_sign a.signs (valid_sign (value_at u))) e)
+        (reach_atom numbers low (coefficient x p valid 2 a.poly) (coefficient x p valid 1 a.poly) (coefficient x p valid 0 a.poly) (has_sign a.signs) roots v
+        (of_true (has_sign a.signs (valid_sign (value_at v))) (sym (ap (has_sign a.signs) (sign_with x p valid a.poly canonical small v)) ∙ t)))
+        (λ u e. ap (has_sign a.signs) (sign_with x p valid a.poly canonical small u) ∙ true_of (has_sign a.signs (valid_sign (value_at u))) e)
       where
         value_at : ValidNumber → ValidNumber
-        value_at u = quadratic valid_operations (coefficient 2 a.poly) (coefficient 1 a.poly) (coefficient 0 a.poly) u
+        value_at u = quadratic valid_operations (coefficient x p valid 2 a.poly) (coefficient x p valid 1 a.poly) (coefficient x p valid 0 a.poly) u
 
     mutual
       -- a formula reaches where its atoms do
@@ -83,14 +63,14 @@ module _ (x : ℕ) (p : Point) (valid : IsPoint p) where
       formula_reaches (All y f) plain h t = absurd plain
 
       each_reaches : (fs : Formulas) → ArePlainWith (λ a. Unit {0}) fs → ((a : atom.Atom) → IsIn a (atoms_of fs) → Reaches (Atom a))
-          → EachIs fs true (at_number v) → Reach valid_operations valid_sign K v (λ u. EachIs fs true (at_number u))
+          → EachIs fs true (at_number x p valid v) → Reach valid_operations valid_sign K v (λ u. EachIs fs true (at_number x p valid u))
       each_reaches no_more plain h t = reach_here numbers low (λ u. tt)
       each_reaches (more f fs) plain h t = reach_both numbers
           (formula_reaches f plain.0 (λ a i. h a (in_left a (atoms f) (atoms_of fs) i)) t.0)
           (each_reaches fs plain.1 (λ a i. h a (in_right a (atoms f) (atoms_of fs) i)) t.1)
 
       some_reaches : (fs : Formulas) → ArePlainWith (λ a. Unit {0}) fs → ((a : atom.Atom) → IsIn a (atoms_of fs) → Reaches (Atom a))
-          → SomeIs fs true (at_number v) → Reach valid_operations valid_sign K v (λ u. SomeIs fs true (at_number u))
+          → SomeIs fs true (at_number x p valid v) → Reach valid_operations valid_sign K v (λ u. SomeIs fs true (at_number x p valid u))
       some_reaches no_more plain h t = absurd t
       some_reaches (more f fs) plain h t = elim t [
         | inl k ↦ reach_then numbers (formula_reaches f plain.0 (λ a i. h a (in_left a (atoms f) (atoms_of fs) i)) k) (λ u e. inl e)

@@ -1,4 +1,4 @@
--- The values of a candidate's root are the roots of its polynomial, and its guard says that there is one.
+-- The values of a candidate's root are the roots of its polynomial, and its guard states that there is one.
 use Rattle.std.proofs.Common.{ℕ, zero as nought, suc, ◌≡◌, ◌∙◌, ◌≤◌, ◌<◌, refl, sym, ap, subst, Bool, true, false, cond, eqb, pos, negsuc, [], ◌∷◌, arith}
 use Rattle.std.proofs.lemmas.Bool.Decides.{nat_tests}
 use Rattle.qe_ring.specs.Ring.{IsRing}
@@ -22,14 +22,15 @@ use Rattle.qe_form.specs.Value.{value}
 use Rattle.qe_form.specs.Truth.{has_sign, Is}
 use Rattle.qe_form.proofs.Values.{value_valid, value_of_sum, value_of_negative, value_of_product, value_of_multiple}
 use Rattle.qe_root.specs.declared.point.RootPoint.{RootPoint}
-use Rattle.qe_root.specs.SignForm.{equal, not_equal, at_least}
-use Rattle.qe_root.specs.Value.{IsValue}
+use Rattle.qe_form.specs.Making.{atomic, both}
+use Rattle.qe_form.specs.Signs.{equal, not_equal, greater_or_equal}
+use Rattle.qe_root.proofs.RootValue.{IsValidRoot}
 use Rattle.qe_points.specs.declared.candidate.Which.{Which}
 use Rattle.qe_points.specs.declared.candidate.Which.TheVariants.{Linear, Upper, Lower}
-use Rattle.qe_points.specs.Guard.{atomic, both, discriminant_by, discriminant, linear_guard, square_guard, root_guard, is_negative, turned, square_root, root}
-use Rattle.qe_points.specs.Guarded.{Fits}
-use Rattle.qe_points.proofs.Occurring.{coefficient_past}
-use Rattle.qe_points.proofs.OnLine.{sign_with}
+use Rattle.qe_points.specs.Guard.{discriminant_by, discriminant, linear_guard, quadratic_guard, root_guard, turned, quadratic_root, root_of_kind}
+use Rattle.qe_points.specs.Guarded.{HasKind}
+use Rattle.qe_poly.specs.Numbers.{is_negative}
+use Rattle.qe_root.proofs.OnLine.{sign_with, no_coefficient}
 
 -- ---- signs
 
@@ -51,12 +52,12 @@ of_not_equal_sign Minus h = refl
 of_not_equal_sign Zero h = absurd h
 of_not_equal_sign Plus h = refl
 
-at_least_sign : (s : Sign) → has_sign at_least s ≡ true → IsNotMinus s
+at_least_sign : (s : Sign) → has_sign greater_or_equal s ≡ true → IsNotMinus s
 at_least_sign Minus h = absurd (cc)
 at_least_sign Zero h = tt
 at_least_sign Plus h = tt
 
-of_at_least_sign : (s : Sign) → IsNotMinus s → has_sign at_least s ≡ true
+of_at_least_sign : (s : Sign) → IsNotMinus s → has_sign greater_or_equal s ≡ true
 of_at_least_sign Minus h = absurd h
 of_at_least_sign Zero h = refl
 of_at_least_sign Plus h = refl
@@ -86,50 +87,29 @@ module _ (p : Point) (valid : IsPoint p) where
   abbrev pub val : Polynomial → ValidNumber
   val f = (value f p, value_valid p valid f)
 
-  -- v is the value of the root, as numbers with their proofs
-  abbrev pub IsValidRoot : RootPoint → ValidNumber → Type 0
-  IsValidRoot k v = IsRootValue valid_operations valid_sign (val k.p) (val k.q) (val k.r) (val k.s) v
-
-  pub to_value : (k : RootPoint) (v : ValidNumber) → IsValidRoot k v → IsValue k p v.0
-  to_value k v h = record {
-    number = v.1;
-    root = record { divisor = h.divisor; radicand = h.radicand; root = h.root.0; not-minus = h.not-minus; square = h.square; value = h.value };
-    root-number = h.root.1;
-  }
-
-  pub of_value : (k : RootPoint) (v : ValidNumber) → IsValue k p v.0 → IsValidRoot k v
-  of_value k v h = record {
-    divisor = h.root.divisor;
-    radicand = h.root.radicand;
-    root = (h.root.root, h.root-number);
-    not-minus = h.root.not-minus;
-    square = h.root.square;
-    value = h.root.value;
-  }
-
   -- ---- a divisor that is a negative number is negated
 
   negated_is : (f : Polynomial) → ValidEqual (val (negative f)) (neg (val f))
   negated_is f = value_of_negative f p valid
 
-  pub turned_value : (k : RootPoint) (v : ValidNumber) → IsValidRoot k v → IsValidRoot (turned k) v
+  pub turned_value : (k : RootPoint) (v : ValidNumber) → IsValidRoot p valid k v → IsValidRoot p valid (turned k) v
   turned_value k v h = by (is_negative k.s)
     where
       back : (f : Polynomial) → ValidEqual (neg (val f)) (val (negative f))
       back f = R.back (val (negative f)) (neg (val f)) (negated_is f)
 
-      by : (b : Bool) → IsValidRoot (cond b (record { p = negative k.p; q = negative k.q; r = k.r; s = negative k.s }) k) v
+      by : (b : Bool) → IsValidRoot p valid (cond b (record { p = negative k.p; q = negative k.q; r = k.r; s = negative k.s }) k) v
       by true = value_same numbers (neg (val k.p)) (neg (val k.q)) (val k.r) (neg (val k.s)) v (val (negative k.p)) (val (negative k.q)) (val k.r) (val (negative k.s)) v
           (back k.p) (back k.q) (R.same (val k.r)) (back k.s) (R.same v) (value_turned numbers (val k.p) (val k.q) (val k.r) (val k.s) v h)
       by false = h
 
-  pub of_turned : (k : RootPoint) (v : ValidNumber) → IsValidRoot (turned k) v → IsValidRoot k v
+  pub of_turned : (k : RootPoint) (v : ValidNumber) → IsValidRoot p valid (turned k) v → IsValidRoot p valid k v
   of_turned k v = by (is_negative k.s)
     where
       back : (f : Polynomial) → ValidEqual (neg (val (negative f))) (val f)
       back f = neg_back (val f) (val (negative f)) (negated_is f)
 
-      by : (b : Bool) → IsValidRoot (cond b (record { p = negative k.p; q = negative k.q; r = k.r; s = negative k.s }) k) v → IsValidRoot k v
+      by : (b : Bool) → IsValidRoot p valid (cond b (record { p = negative k.p; q = negative k.q; r = k.r; s = negative k.s }) k) v → IsValidRoot p valid k v
       by true h = value_same numbers (neg (val (negative k.p))) (neg (val (negative k.q))) (val k.r) (neg (val (negative k.s))) v (val k.p) (val k.q) (val k.r) (val k.s) v
           (back k.p) (back k.q) (R.same (val k.r)) (back k.s) (R.same v)
           (value_turned numbers (val (negative k.p)) (val (negative k.q)) (val k.r) (val (negative k.s)) v h)
@@ -177,27 +157,27 @@ module _ (p : Point) (valid : IsPoint p) where
     abbrev pub IsRootAt : Which → ValidNumber → Type 0
     IsRootAt which v = IsRootOfKind valid_operations valid_sign (kind_of which) A B C v
 
-    to_square : (q : ValidNumber) (g : Polynomial) (v : ValidNumber) → ValidEqual q (val g)
-        → IsRootValue valid_operations valid_sign (neg B) q (line.discriminant valid_operations A B C) (mul (of_int valid_operations (pos 2)) A) v → IsValidRoot (square_root x f g) v
-    to_square q g v same h = value_same numbers (neg B) q (line.discriminant valid_operations A B C) (mul (of_int valid_operations (pos 2)) A) v
+    to_quadratic : (q : ValidNumber) (g : Polynomial) (v : ValidNumber) → ValidEqual q (val g)
+        → IsRootValue valid_operations valid_sign (neg B) q (line.discriminant valid_operations A B C) (mul (of_int valid_operations (pos 2)) A) v → IsValidRoot p valid (quadratic_root x f g) v
+    to_quadratic q g v same h = value_same numbers (neg B) q (line.discriminant valid_operations A B C) (mul (of_int valid_operations (pos 2)) A) v
         (val (negative (coefficient_in x 1 f))) (val g) (val (discriminant x f)) (val (scaled (pos 2) (coefficient_in x 2 f))) v
         (R.back (val (negative (coefficient_in x 1 f))) (neg B) (negated_is (coefficient_in x 1 f))) same
         (R.back (val (discriminant x f)) (line.discriminant valid_operations A B C) (discriminant_is (coefficient_in x 2 f) (coefficient_in x 1 f) (coefficient_in x 0 f)))
         (R.back (val (scaled (pos 2) (coefficient_in x 2 f))) (mul (of_int valid_operations (pos 2)) A) (double_is (coefficient_in x 2 f))) (R.same v) h
 
-    of_square : (q : ValidNumber) (g : Polynomial) (v : ValidNumber) → ValidEqual (val g) q
-        → IsValidRoot (square_root x f g) v → IsRootValue valid_operations valid_sign (neg B) q (line.discriminant valid_operations A B C) (mul (of_int valid_operations (pos 2)) A) v
-    of_square q g v same h = value_same numbers
+    of_quadratic : (q : ValidNumber) (g : Polynomial) (v : ValidNumber) → ValidEqual (val g) q
+        → IsValidRoot p valid (quadratic_root x f g) v → IsRootValue valid_operations valid_sign (neg B) q (line.discriminant valid_operations A B C) (mul (of_int valid_operations (pos 2)) A) v
+    of_quadratic q g v same h = value_same numbers
         (val (negative (coefficient_in x 1 f))) (val g) (val (discriminant x f)) (val (scaled (pos 2) (coefficient_in x 2 f))) v
         (neg B) q (line.discriminant valid_operations A B C) (mul (of_int valid_operations (pos 2)) A) v
         (negated_is (coefficient_in x 1 f)) same (discriminant_is (coefficient_in x 2 f) (coefficient_in x 1 f) (coefficient_in x 0 f)) (double_is (coefficient_in x 2 f)) (R.same v) h
 
     -- so it is a value of the candidate's root
-    pub to_root : (which : Which) (v : ValidNumber) → IsRootAt which v → IsValidRoot (root x f which) v
+    pub to_root : (which : Which) (v : ValidNumber) → IsRootAt which v → IsValidRoot p valid (root_of_kind x f which) v
     to_root Linear v h = value_same numbers (neg C) zero zero B v (val (negative (coefficient_in x 0 f))) (val []) (val []) B v
         (R.back (val (negative (coefficient_in x 0 f))) (neg C) (negated_is (coefficient_in x 0 f))) refl refl (R.same B) (R.same v) h.1
-    to_root Upper v h = to_square one (constant (pos 1)) v refl h
-    to_root Lower v h = to_square (neg one) (constant (negsuc 0)) v refl h
+    to_root Upper v h = to_quadratic one (constant (pos 1)) v refl h
+    to_root Lower v h = to_quadratic (neg one) (constant (negsuc 0)) v refl h
 
     -- where a is zero if the kind is linear
     abbrev pub IsFlat : Which → Type 0
@@ -206,14 +186,14 @@ module _ (p : Point) (valid : IsPoint p) where
     IsFlat Lower = Unit {0}
 
     -- and the other way
-    pub of_root : (which : Which) (v : ValidNumber) → IsFlat which → IsValidRoot (root x f which) v → IsRootAt which v
+    pub of_root : (which : Which) (v : ValidNumber) → IsFlat which → IsValidRoot p valid (root_of_kind x f which) v → IsRootAt which v
     of_root Linear v flat h = (
       flat,
       value_same numbers (val (negative (coefficient_in x 0 f))) (val []) (val []) B v (neg C) zero zero B v
           (negated_is (coefficient_in x 0 f)) refl refl (R.same B) (R.same v) h,
     )
-    of_root Upper v flat h = of_square one (constant (pos 1)) v refl h
-    of_root Lower v flat h = of_square (neg one) (constant (negsuc 0)) v refl h
+    of_root Upper v flat h = of_quadratic one (constant (pos 1)) v refl h
+    of_root Lower v flat h = of_quadratic (neg one) (constant (negsuc 0)) v refl h
 
     -- ---- the guard
 
@@ -227,10 +207,6 @@ module _ (p : Point) (valid : IsPoint p) where
     radicand_is = valid_ordered.sign-same (val (discriminant x f)) (line.discriminant valid_operations A B C)
         (discriminant_is (coefficient_in x 2 f) (coefficient_in x 1 f) (coefficient_in x 0 f))
 
-    -- past the degree a coefficient is zero
-    no_coefficient : (k : ℕ) → degree_in x f < k → valid_sign (val (coefficient_in x k f)) ≡ Zero
-    no_coefficient k low = ap (λ c. sign_of (value c p)) (coefficient_past x k f low)
-
     clash : {P : Type 0} (s : Sign) → IsNotZero s → s ≡ Zero → P
     clash s h e = absurd (subst (λ t. IsNotZero t) e h)
 
@@ -238,17 +214,17 @@ module _ (p : Point) (valid : IsPoint p) where
     degree_two low a = by (degree_in x f) refl low
       where
         by : (n : ℕ) → degree_in x f ≡ n → n ≤ 2 → degree_in x f ≡ 2
-        by nought e l = clash (valid_sign A) a (no_coefficient 2 (omega arith))
-        by (suc nought) e l = clash (valid_sign A) a (no_coefficient 2 (omega arith))
+        by nought e l = clash (valid_sign A) a (no_coefficient x p valid 2 f (omega arith))
+        by (suc nought) e l = clash (valid_sign A) a (no_coefficient x p valid 2 f (omega arith))
         by (suc (suc nought)) e l = e
         by (suc (suc (suc n))) e l = absurd (omega arith)
 
     -- a polynomial with such a root has the degree of its kind
-    pub has_degree : (which : Which) (v : ValidNumber) → degree_in x f ≤ 2 → IsRootAt which v → Fits x f which
+    pub has_degree : (which : Which) (v : ValidNumber) → degree_in x f ≤ 2 → IsRootAt which v → HasKind x f which
     has_degree Linear v low h = (positive (degree_in x f) refl, low)
       where
         positive : (n : ℕ) → degree_in x f ≡ n → 0 < n
-        positive nought none = clash (valid_sign B) h.1.divisor (no_coefficient 1 (omega arith))
+        positive nought none = clash (valid_sign B) h.1.divisor (no_coefficient x p valid 1 f (omega arith))
         positive (suc n) some = omega arith
     has_degree Upper v low h = degree_two low (half A h.divisor)
     has_degree Lower v low h = degree_two low (half A h.divisor)
@@ -257,12 +233,12 @@ module _ (p : Point) (valid : IsPoint p) where
     pub guard_true : (which : Which) (v : ValidNumber) → IsRootAt which v → Is (root_guard x f which) true p
     guard_true Linear v h = by (eqb (degree_in x f) 2)
       where
-        slope : has_sign not_equal (valid_sign B) ≡ true
-        slope = of_not_equal_sign (valid_sign B) h.1.divisor
+        leading : has_sign not_equal (valid_sign B) ≡ true
+        leading = of_not_equal_sign (valid_sign B) h.1.divisor
 
         by : (b : Bool) → Is (cond b (both (atomic (coefficient_in x 2 f) equal) (atomic (coefficient_in x 1 f) not_equal)) (atomic (coefficient_in x 1 f) not_equal)) true p
-        by true = (of_equal_sign (valid_sign A) h.0, (slope, tt))
-        by false = slope
+        by true = (of_equal_sign (valid_sign A) h.0, (leading, tt))
+        by false = leading
     guard_true Upper v h =
         (of_not_equal_sign (valid_sign A) (half A h.divisor), (of_at_least_sign (valid_sign (val (discriminant x f))) (subst (λ s. IsNotMinus s) (sym radicand_is) h.radicand), tt))
     guard_true Lower v h =
@@ -279,28 +255,28 @@ module _ (p : Point) (valid : IsPoint p) where
             → Is (cond b (both (atomic (coefficient_in x 2 f) equal) (atomic (coefficient_in x 1 f) not_equal)) (atomic (coefficient_in x 1 f) not_equal)) true p
             → (valid_sign A ≡ Zero) × IsNotZero (valid_sign B)
         by true test h = (equal_sign (valid_sign A) h.0, not_equal_sign (valid_sign B) h.1.0)
-        by false test h = (no_coefficient 2 (below_two (degree_in x f) low test), not_equal_sign (valid_sign B) h)
+        by false test h = (no_coefficient x p valid 2 f (below_two (degree_in x f) low test), not_equal_sign (valid_sign B) h)
 
-    square_says : Is (square_guard x f) true p → IsNotZero (valid_sign A) × IsNotMinus (valid_sign (line.discriminant valid_operations A B C))
-    square_says g = (not_equal_sign (valid_sign A) g.0, subst (λ s. IsNotMinus s) radicand_is (at_least_sign (valid_sign (val (discriminant x f))) g.1.0))
+    quadratic_says : Is (quadratic_guard x f) true p → IsNotZero (valid_sign A) × IsNotMinus (valid_sign (line.discriminant valid_operations A B C))
+    quadratic_says g = (not_equal_sign (valid_sign A) g.0, subst (λ s. IsNotMinus s) radicand_is (at_least_sign (valid_sign (val (discriminant x f))) g.1.0))
 
-    at_most_two : (which : Which) → Fits x f which → degree_in x f ≤ 2
+    at_most_two : (which : Which) → HasKind x f which → degree_in x f ≤ 2
     at_most_two Linear fits = fits.1
     at_most_two Upper fits = omega arith
     at_most_two Lower fits = omega arith
 
-    pub guard_flat : (which : Which) → Fits x f which → Is (root_guard x f which) true p → IsFlat which
+    pub guard_flat : (which : Which) → HasKind x f which → Is (root_guard x f which) true p → IsFlat which
     guard_flat Linear fits g = (linear_says fits.1 g).0
     guard_flat Upper fits g = tt
     guard_flat Lower fits g = tt
 
     -- so where it is true there is such a root
-    pub root_exists : (which : Which) → Fits x f which → Is (root_guard x f which) true p → (v : ValidNumber) × IsRootAt which v
+    pub root_exists : (which : Which) → HasKind x f which → Is (root_guard x f which) true p → (v : ValidNumber) × IsRootAt which v
     root_exists Linear fits g =
         let says = linear_says fits.1 g in
         let found = has_value numbers (neg C) zero zero B says.1 tt in (found.0, (says.0, found.1))
-    root_exists Upper fits g = let says = square_says g in has_value numbers (neg B) one (line.discriminant valid_operations A B C) (mul (of_int valid_operations (pos 2)) A) (double A says.0) says.1
-    root_exists Lower fits g = let says = square_says g in has_value numbers (neg B) (neg one) (line.discriminant valid_operations A B C) (mul (of_int valid_operations (pos 2)) A) (double A says.0) says.1
+    root_exists Upper fits g = let says = quadratic_says g in has_value numbers (neg B) one (line.discriminant valid_operations A B C) (mul (of_int valid_operations (pos 2)) A) (double A says.0) says.1
+    root_exists Lower fits g = let says = quadratic_says g in has_value numbers (neg B) (neg one) (line.discriminant valid_operations A B C) (mul (of_int valid_operations (pos 2)) A) (double A says.0) says.1
 
     -- the polynomial is zero at its roots
     pub zero_there : (which : Which) (v : ValidNumber) → IsPolynomial f → degree_in x f ≤ 2 → IsRootAt which v → sign_of (value f ((x, v.0) ∷ p)) ≡ Zero

@@ -1,4 +1,4 @@
--- The guard of a candidate says that its point is there, and in both stand only variables of its polynomial other than x.
+-- Where the guard of a candidate is true its point exists, and only variables of its polynomial other than x occur in both.
 use Rattle.std.proofs.Common.{ℕ, ◌≡◌, ◌≢◌, ◌≤◌, inl, inr, sym, subst, Bool, true, false, cond, eqb, pos, negsuc, Some, None, Option, Result, Ok, Err, IsErr, IsErrAnd, IfSome, arith}
 use Rattle.qe_tower.specs.Point as assignment
 use Rattle.qe_tower.specs.Number.{ValidNumber}
@@ -8,7 +8,7 @@ use Rattle.qe_poly.specs.Coefficients.{degree_in, coefficient_in}
 use Rattle.qe_poly.specs.Value.{scaled}
 use Rattle.qe_poly.specs.declared.limit.PolyLimit.{PolyLimit}
 use Rattle.qe_halt.specs.declared.halt.Halt.{Halt}
-use Rattle.qe_halt.specs.Outcome.{IsStop}
+use Rattle.qe_halt.specs.Outcome.{IsStop, IsOutcome}
 use Rattle.qe_form.specs.Formula.{Formula}
 use Rattle.qe_form.specs.Plain.{IsPlain}
 use Rattle.qe_form.specs.Same.{IsFree}
@@ -22,19 +22,22 @@ use Rattle.qe_root.specs.declared.point.RootPoint.{RootPoint}
 use Rattle.qe_root.specs.declared.point.Point.{Point}
 use Rattle.qe_root.specs.declared.point.Point.TheVariants as point
 use Rattle.qe_root.specs.Holds.{StandsAt, OwnIsZero}
-use Rattle.qe_root.specs.Outcome.{IsOutcome}
+use Rattle.qe_root.specs.Occurs.{OccursInRoot, OccursInPoint}
 use Rattle.qe_root.specs.Value.{IsValue}
-use Rattle.qe_root.specs.SignForm.{equal, not_equal}
+use Rattle.qe_form.specs.Making.{atomic, both}
+use Rattle.qe_form.specs.Signs.{equal, not_equal}
+use Rattle.qe_poly.specs.Numbers.{is_negative}
 use Rattle.qe_points.specs.declared.candidate.Which.{Which}
 use Rattle.qe_points.specs.declared.candidate.Which.TheVariants.{Linear, Upper, Lower}
 use Rattle.qe_points.specs.declared.candidate.Candidate.{Candidate}
 use Rattle.qe_points.specs.declared.candidate.Candidate.TheVariants.{Root}
 use Rattle.qe_points.specs.declared.guard.GuardedPoint.{GuardedPoint}
 use Rattle.qe_points.specs.declared.guard.RootWithGuard.{RootWithGuard}
-use Rattle.qe_points.specs.Guard.{atomic, both, discriminant, root_guard, is_negative, turned, square_root, root, at_root}
-use Rattle.qe_points.specs.Guarded.{Fits, HasRoot, IsMade, IsGuardedBy, IsThere, OccursInRoot, OccursInPoint, IsSound}
-use Rattle.qe_points.proofs.Occurring.{occurs_coefficient, occurs_negative, occurs_scaled, occurs_difference, occurs_product}
-use Rattle.qe_points.proofs.Roots.{to_value, of_value, turned_value, of_turned, to_root, of_root, guard_flat, root_exists, zero_there}
+use Rattle.qe_points.specs.Guard.{discriminant, root_guard, turned, quadratic_root, root_of_kind, at_or_above}
+use Rattle.qe_points.specs.Guarded.{HasKind, HasRoot, IsMade, IsGuardedBy, IsThere, IsSound}
+use Rattle.qe_poly.proofs.Occurring.{occurs_coefficient, occurs_negative, occurs_scaled, occurs_difference, occurs_product}
+use Rattle.qe_root.proofs.RootValue.{to_value, of_value}
+use Rattle.qe_points.proofs.Roots.{turned_value, of_turned, to_root, of_root, guard_flat, root_exists, zero_there}
 
 -- ---- which variables occur
 
@@ -76,19 +79,19 @@ module _ (x : ℕ) (f : Polynomial) (canonical : IsPolynomial f) (y : ℕ) where
   of_guard Lower (inr (inl k)) = of_discriminant k
   of_guard Lower (inr (inr k)) = absurd k
 
-  of_square_root : (q : Polynomial) → (OccursInSome y q → IsOther) → OccursInRoot y (square_root x f q) → IsOther
-  of_square_root q none (inl h) = of_coefficient 1 (occurs_negative y (coefficient_in x 1 f) h)
-  of_square_root q none (inr (inl h)) = none h
-  of_square_root q none (inr (inr (inl h))) = of_discriminant h
-  of_square_root q none (inr (inr (inr h))) = of_coefficient 2 (occurs_scaled y (pos 2) (coefficient_in x 2 f) h)
+  of_quadratic_root : (q : Polynomial) → (OccursInSome y q → IsOther) → OccursInRoot y (quadratic_root x f q) → IsOther
+  of_quadratic_root q none (inl h) = of_coefficient 1 (occurs_negative y (coefficient_in x 1 f) h)
+  of_quadratic_root q none (inr (inl h)) = none h
+  of_quadratic_root q none (inr (inr (inl h))) = of_discriminant h
+  of_quadratic_root q none (inr (inr (inr h))) = of_coefficient 2 (occurs_scaled y (pos 2) (coefficient_in x 2 f) h)
 
-  of_parts : (which : Which) → OccursInRoot y (root x f which) → IsOther
+  of_parts : (which : Which) → OccursInRoot y (root_of_kind x f which) → IsOther
   of_parts Linear (inl h) = of_coefficient 0 (occurs_negative y (coefficient_in x 0 f) h)
   of_parts Linear (inr (inl h)) = absurd h
   of_parts Linear (inr (inr (inl h))) = absurd h
   of_parts Linear (inr (inr (inr h))) = of_coefficient 1 h
-  of_parts Upper h = of_square_root (constant (pos 1)) (λ k. elim k [ inl m ↦ absurd m | inr m ↦ absurd m ]) h
-  of_parts Lower h = of_square_root (constant (negsuc 0)) (λ k. elim k [ inl m ↦ absurd m | inr m ↦ absurd m ]) h
+  of_parts Upper h = of_quadratic_root (constant (pos 1)) (λ k. elim k [ inl m ↦ absurd m | inr m ↦ absurd m ]) h
+  of_parts Lower h = of_quadratic_root (constant (negsuc 0)) (λ k. elim k [ inl m ↦ absurd m | inr m ↦ absurd m ]) h
 
   turned_has : (k : RootPoint) → OccursInRoot y (turned k) → OccursInRoot y k
   turned_has k = by (is_negative k.s)
@@ -100,46 +103,46 @@ module _ (x : ℕ) (f : Polynomial) (canonical : IsPolynomial f) (y : ℕ) where
       by true (inr (inr (inr h))) = inr (inr (inr (occurs_negative y k.s h)))
       by false h = h
 
-  of_point : (plus : Bool) (which : Which) → OccursInPoint y (at_root plus (turned (root x f which))) → IsOther
-  of_point true which h = of_parts which (turned_has (root x f which) h)
-  of_point false which h = of_parts which (turned_has (root x f which) h)
+  of_point : (plus : Bool) (which : Which) → OccursInPoint y (at_or_above plus (turned (root_of_kind x f which))) → IsOther
+  of_point true which h = of_parts which (turned_has (root_of_kind x f which) h)
+  of_point false which h = of_parts which (turned_has (root_of_kind x f which) h)
 
 -- ---- the point is there
 
-module _ (x : ℕ) (f : Polynomial) (n : ℕ) (which : Which) (canonical : IsPolynomial f) (fits : Fits x f which) where
+module _ (x : ℕ) (f : Polynomial) (n : ℕ) (which : Which) (canonical : IsPolynomial f) (fits : HasKind x f which) where
   low : degree_in x f ≤ 2
   low = by which fits
     where
-      by : (which : Which) → Fits x f which → degree_in x f ≤ 2
+      by : (which : Which) → HasKind x f which → degree_in x f ≤ 2
       by Linear fits = fits.1
       by Upper fits = omega arith
       by Lower fits = omega arith
 
   module _ (p : assignment.Point) (valid : assignment.IsPoint p) (g : Is (root_guard x f which) true p) where
-    exists : (v : ValidNumber) × IsValue (turned (root x f which)) p v.0
+    exists : (v : ValidNumber) × IsValue (turned (root_of_kind x f which)) p v.0
     exists =
         let v = root_exists p valid x f which fits g in
-        (v.0, to_value p valid (turned (root x f which)) v.0 (turned_value p valid (root x f which) v.0 (to_root p valid x f which v.0 v.1)))
+        (v.0, to_value p valid (turned (root_of_kind x f which)) v.0 (turned_value p valid (root_of_kind x f which) v.0 (to_root p valid x f which v.0 v.1)))
 
-    vanishes : (v : ValidNumber) → IsValue (turned (root x f which)) p v.0 → OwnIsZero x (Some f) p (at v)
+    vanishes : (v : ValidNumber) → IsValue (turned (root_of_kind x f which)) p v.0 → OwnIsZero x (Some f) p (at v)
     vanishes v h = zero_there p valid x f which v canonical low
-        (of_root p valid x f which v (guard_flat p valid x f which fits g) (of_turned p valid (root x f which) v (of_value p valid (turned (root x f which)) v h)))
+        (of_root p valid x f which v (guard_flat p valid x f which fits g) (of_turned p valid (root_of_kind x f which) v (of_value p valid (turned (root_of_kind x f which)) v h)))
 
-    is_there : (plus : Bool) → IsThere x (Root f n which plus) (at_root plus (turned (root x f which))) p
+    is_there : (plus : Bool) → IsThere x (Root f n which plus) (at_or_above plus (turned (root_of_kind x f which))) p
     is_there true = record { place = let v = exists in (above v.0, v.1); zero = zero }
       where
-        zero : (k : Place ValidNumber) → StandsAt (point.RootPlus (turned (root x f which))) p k → OwnIsZero x (Some f) p k
+        zero : (k : Place ValidNumber) → StandsAt (point.RootPlus (turned (root_of_kind x f which))) p k → OwnIsZero x (Some f) p k
         zero below h = absurd h
         zero (at v) h = absurd h
         zero (above v) h = vanishes v h
     is_there false = record { place = let v = exists in (at v.0, v.1); zero = zero }
       where
-        zero : (k : Place ValidNumber) → StandsAt (point.Root (turned (root x f which))) p k → OwnIsZero x (Some f) p k
+        zero : (k : Place ValidNumber) → StandsAt (point.Root (turned (root_of_kind x f which))) p k → OwnIsZero x (Some f) p k
         zero below h = absurd h
         zero (at v) h = vanishes v h
         zero (above v) h = absurd h
 
-  sound_root : (plus : Bool) (g : Formula) → Keeps (root_guard x f which) g → IsSimplified g → IsSound x (Root f n which plus) g (at_root plus (turned (root x f which)))
+  sound_root : (plus : Bool) (g : Formula) → Keeps (root_guard x f which) g → IsSimplified g → IsSound x (Root f n which plus) g (at_or_above plus (turned (root_of_kind x f which)))
   sound_root plus g kept simple = record {
     plain = simplified_is_proper g simple;
     there = λ p valid t. is_there p valid ((kept.agree p valid true).1 t) plus;
@@ -157,14 +160,14 @@ plain_guard x f Upper = (tt, (tt, tt))
 plain_guard x f Lower = (tt, (tt, tt))
 
 -- what is made is sound
-pub made_sound : (x : ℕ) (f : Polynomial) (n : ℕ) (which : Which) (plus : Bool) (guard g : Formula) (p : Point) (k : RootPoint) → IsPolynomial f → Fits x f which
-    → guard ≡ root_guard x f which → k ≡ root x f which → p ≡ at_root plus (turned k) → Keeps guard g → (IsPlain guard → IsSimplified g) → IsSound x (Root f n which plus) g p
+pub made_sound : (x : ℕ) (f : Polynomial) (n : ℕ) (which : Which) (plus : Bool) (guard g : Formula) (p : Point) (k : RootPoint) → IsPolynomial f → HasKind x f which
+    → guard ≡ root_guard x f which → k ≡ root_of_kind x f which → p ≡ at_or_above plus (turned k) → Keeps guard g → (IsPlain guard → IsSimplified g) → IsSound x (Root f n which plus) g p
 made_sound x f n which plus guard g p k canonical fits guard_is root_is point_is kept simple =
-    subst (λ z. IsSound x (Root f n which plus) g z) (sym (subst (λ z. p ≡ at_root plus (turned z)) root_is point_is))
+    subst (λ z. IsSound x (Root f n which plus) g z) (sym (subst (λ z. p ≡ at_or_above plus (turned z)) root_is point_is))
     (sound_root x f n which canonical fits plus g (subst (λ z. Keeps z g) guard_is kept) (simple (subst IsPlain (sym guard_is) (plain_guard x f which))))
 
 pub answer_sound : (x : ℕ) (c : Candidate) (f : Polynomial) (n : ℕ) (which : Which) (plus : Bool) (found : RootWithGuard) (o : Option GuardedPoint) → c ≡ Root f n which plus
-    → IsPolynomial f → IsMade (root_guard x f which) (root x f which) found → IsGuardedBy (tree found.guard) (at_root plus (turned found.root)) o
+    → IsPolynomial f → IsMade (root_guard x f which) (root_of_kind x f which) found → IsGuardedBy (tree found.guard) (at_or_above plus (turned found.root)) o
     → IfSome o (λ g. Keeps (tree found.guard) (tree g.guard)) → IfSome o (λ g. IsPlain (tree found.guard) → IsSimplified (tree g.guard))
     → HasRoot x c → IfSome o (λ g. IsSound x c (tree g.guard) g.point)
 answer_sound x c f n which plus found None is canonical made guarded kept simple fits = tt

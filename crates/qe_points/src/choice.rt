@@ -10,8 +10,8 @@ use crate::{Form, Var};
 /// Degrees from here on are too high to eliminate the variable.
 const TOO_HIGH: u32 = 3;
 
-/// The first of the variables in which the formula has its least degree, where that is at most 2; `None` where the formula has a
-/// degree over 2 in each.
+/// The first of the variables in which the formula has its least degree, where that is at most 2;
+/// `None` where the formula has a degree over 2 in each.
 pub fn choose(form: &Form, vars: &[Var]) -> Option<Var>
     ensures exact { result ≡ choice (tree form.now) vars.now }
     ensures chosen { IfSome result (λ v. IsOneOf v vars.now × (degree v.0 (tree form.now) ≤ 2)) }

@@ -6,9 +6,8 @@ use Rattle.qe_ring.specs.Ordered.{EqualBySign}
 use Rattle.qe_ring.proofs.Finite.{any, given, Claim, decide, is-eq, to_is}
 use Rattle.qe_tower.specs.Number.{Number, sign_of, add, mul, ValidNumber}
 use Rattle.qe_tower.specs.Point.{Point, IsPoint}
-use Rattle.qe_tower.proofs.ValidNumbers.{valid_operations, valid_sign}
+use Rattle.qe_tower.proofs.ValidNumbers.{valid_operations}
 use Rattle.qe_line.specs.Field.{IsEuclideanField}
-use Rattle.qe_line.specs.Quadratic.{IsRootValue}
 use Rattle.qe_line.specs.Numbers.{numbers}
 use Rattle.qe_line.proofs.Equal.{one_value}
 use Rattle.qe_line.proofs.Values.{has_value}
@@ -19,37 +18,23 @@ use Rattle.qe_root.specs.declared.point.RootPoint.{RootPoint}
 use Rattle.qe_root.specs.Value.{IsValue}
 use Rattle.qe_root.specs.Laws as law
 use Rattle.qe_root.proofs.Values.{valid_value}
-use Rattle.qe_root.proofs.RootValue.{valid_root}
+use Rattle.qe_root.proofs.RootValue.{IsValidRoot, to_value, of_value}
 
 value_exists : (k : RootPoint) (at : Point) → IsPoint at → IsNotZero (sign_of (value k.s at)) → IsNotMinus (sign_of (value k.r at))
     → (v : Number) × IsValue k at v
-value_exists k at valid divisor radicand = (
-  found.0.0,
-  record {
-    number = found.0.1;
-    root = record {
-      divisor = found.1.divisor;
-      radicand = found.1.radicand;
-      root = found.1.root.0;
-      not-minus = found.1.not-minus;
-      square = found.1.square;
-      value = found.1.value;
-    };
-    root-number = found.1.root.1;
-  },
-)
+value_exists k at valid divisor radicand = (found.0.0, to_value at valid k found.0 found.1)
   where
     val : Polynomial → ValidNumber
     val p = valid_value at valid p
 
-    found : (v : ValidNumber) × IsRootValue valid_operations valid_sign (val k.p) (val k.q) (val k.r) (val k.s) v
+    found : (v : ValidNumber) × IsValidRoot at valid k v
     found = has_value numbers (val k.p) (val k.q) (val k.r) (val k.s) divisor radicand
 
 pub one_value_is : law.OneValue
 one_value_is = record {
   exists = value_exists;
   one = λ k at valid u v h l. one_value numbers (valid_value at valid k.p) (valid_value at valid k.q) (valid_value at valid k.r) (valid_value at valid k.s)
-      (u, h.number) (v, l.number) (valid_root at valid k u h) (valid_root at valid k v l);
+      (u, h.number) (v, l.number) (of_value at valid k (u, h.number) h) (of_value at valid k (v, l.number) l);
 }
 
 -- a square that is not zero leaves a product its sign

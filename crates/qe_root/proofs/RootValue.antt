@@ -5,7 +5,7 @@ use Rattle.qe_ring.specs.Sign.{Sign}
 use Rattle.qe_ring.specs.Ordered.{EqualBySign}
 use Rattle.qe_line.specs.Field.{IsEuclideanField}
 use Rattle.qe_ring.specs.Expression.{var, of_int, ◌⊕◌, ◌⊗◌}
-use Rattle.qe_tower.specs.Number.{Number, whole_number, ValidNumber}
+use Rattle.qe_tower.specs.Number.{whole_number, ValidNumber}
 use Rattle.qe_tower.specs.Point.{Point, IsPoint}
 use Rattle.qe_tower.proofs.ValidNumbers.{valid_operations, valid_sign, ValidEqual, valid_ordered}
 use Rattle.qe_line.specs.Quadratic.{IsRootValue, quadratic}
@@ -60,9 +60,19 @@ module _ (at : Point) (valid : IsPoint at) where
       linear : Polynomial
       linear = triple beta k.q k.s
 
-  -- a value of the root with the proof that it and the square root are numbers
-  abbrev pub valid_root : (k : RootPoint) (v : Number) (h : IsValue k at v) → IsRootValue valid_operations valid_sign (val k.p) (val k.q) (val k.r) (val k.s) (v, h.number)
-  valid_root k v h = record {
+  -- v is a value of the root, as numbers with their proofs
+  abbrev pub IsValidRoot : RootPoint → ValidNumber → Type 0
+  IsValidRoot k v = IsRootValue valid_operations valid_sign (val k.p) (val k.q) (val k.r) (val k.s) v
+
+  pub to_value : (k : RootPoint) (v : ValidNumber) → IsValidRoot k v → IsValue k at v.0
+  to_value k v h = record {
+    number = v.1;
+    root = record { divisor = h.divisor; radicand = h.radicand; root = h.root.0; not-minus = h.not-minus; square = h.square; value = h.value };
+    root-number = h.root.1;
+  }
+
+  abbrev pub of_value : (k : RootPoint) (v : ValidNumber) → IsValue k at v.0 → IsValidRoot k v
+  of_value k v h = record {
     divisor = h.root.divisor;
     radicand = h.root.radicand;
     root = (h.root.root, h.root-number);
@@ -99,7 +109,7 @@ module _ {C : Type 0} {o : Operations C} {s : C → Sign} (F : IsEuclideanField 
 are_parts : (f : Polynomial) (x : ℕ) (k : RootPoint) → IsPolynomial f → degree_in x f ≤ 2 → AreParts f x k (plain_part_of f x k) (root_part_of f x k)
 are_parts f x k canonical low at valid v h =
     value_by_parts numbers (val (coefficient_in x 2 f)) (val (coefficient_in x 1 f)) (val (coefficient_in x 0 f)) (val k.p) (val k.q) (val k.r) (val k.s) (v, h.number)
-    (val (plain_part_of f x k)) (val (root_part_of f x k)) (valid_value ((x, v) ∷ at) (h.number, valid) f) (valid_root at valid k v h)
+    (val (plain_part_of f x k)) (val (root_part_of f x k)) (valid_value ((x, v) ∷ at) (h.number, valid) f) (of_value at valid k (v, h.number) h)
     (value_of_quadratic at valid x v h.number f canonical low)
     (plain_value at valid (coefficient_in x 2 f) (coefficient_in x 1 f) (coefficient_in x 0 f) k)
     (root_value at valid (coefficient_in x 2 f) (coefficient_in x 1 f) (val (coefficient_in x 0 f)) k)

@@ -1,5 +1,5 @@
 -- The formula for the sign of A + B*sqrt(r) is true at the points where that sign is in the set, and false at the others.
-use Rattle.std.proofs.Common.{Option, Result, Ok, Err, IfOk, ◌≡◌, ◌↔◌, ◌⊎◌, inl, inr, refl, sym, ap, ap₂, subst, ◌∙◌, T, Bool, true, false, ◌&&◌, ◌||◌, [], ◌∷◌}
+use Rattle.std.proofs.Common.{Option, Result, Ok, Err, IfOk, ◌≡◌, refl, sym, ap, ap₂, subst, ◌∙◌, T, Bool, true, false, [], ◌∷◌}
 use Rattle.qe_ring.specs.Ring.{difference}
 use Rattle.qe_ring.specs.Expression.{var, nought, ◌⊕◌, ⊖◌, ◌⊗◌, ◌⊝◌}
 use Rattle.qe_ring.specs.Sign.{Sign, IsNotMinus, opposite, ◌·◌, adds, pick}
@@ -17,13 +17,14 @@ use Rattle.qe_form.specs.declared.form.Form.{Form}
 use Rattle.qe_form.specs.Formula.{Formula}
 use Rattle.qe_form.specs.Tree.{tree}
 use Rattle.qe_form.specs.Value.{value}
-use Rattle.qe_form.specs.Truth.{has_sign, Is}
+use Rattle.qe_form.specs.Truth.{has_sign}
 use Rattle.qe_form.proofs.Values.{value_of_negative, value_of_product}
-use Rattle.qe_root.specs.Outcome.{IsOutcome}
-use Rattle.qe_root.specs.Shape.{Shape, atom, both, either, formula, is_true}
+use Rattle.qe_halt.specs.Outcome.{IsOutcome}
+use Rattle.qe_root.specs.Shape.{Shape, atom, conjunction, disjunction, formula, is_met}
 use Rattle.qe_form.specs.Signs.{IsProper}
 use Rattle.qe_root.specs.SignForm.{sign_shape, side_shape, zero_shape, norm, sign_formula, IsSquareRoot, IsSignForm}
 use Rattle.qe_root.proofs.Values.{polynomial_operations, valid_value, value_means}
+use Rattle.qe_root.proofs.TestFormulas.{Reads, rereads, reads_atom, reads_both, reads_either}
 use Rattle.qe_root.proofs.SignTable.{table}
 
 -- ---- truth of a formula by the signs at its atoms
@@ -31,64 +32,23 @@ use Rattle.qe_root.proofs.SignTable.{table}
 -- something else at the atoms
 abbrev mapped : {X Y : Type 0} → (X → Y) → Shape X → Shape Y
 mapped f (atom x signs) = atom (f x) signs
-mapped f (both s t) = both (mapped f s) (mapped f t)
-mapped f (either s t) = either (mapped f s) (mapped f t)
-
-and_true : (a b : Bool) → a ≡ true → b ≡ true → (a && b) ≡ true
-and_true a b left right = ap₂ ◌&&◌ left right
-
-and_parts : (a b : Bool) → (a && b) ≡ true → (a ≡ true) × (b ≡ true)
-and_parts true b holds = (refl, holds)
-and_parts false b holds = absurd (subst T (sym holds) tt)
-
-and_false : (a b : Bool) → a ≡ false ⊎ b ≡ false → (a && b) ≡ false
-and_false true b (inl left) = absurd (subst T left tt)
-and_false true b (inr right) = right
-and_false false b some = refl
-
-and_some : (a b : Bool) → (a && b) ≡ false → a ≡ false ⊎ b ≡ false
-and_some true b holds = inr holds
-and_some false b holds = inl refl
-
-or_true : (a b : Bool) → a ≡ true ⊎ b ≡ true → (a || b) ≡ true
-or_true true b some = refl
-or_true false b (inl left) = absurd (subst T (sym left) tt)
-or_true false b (inr right) = right
-
-or_some : (a b : Bool) → (a || b) ≡ true → a ≡ true ⊎ b ≡ true
-or_some true b holds = inl refl
-or_some false b holds = inr holds
-
-or_false : (a b : Bool) → a ≡ false → b ≡ false → (a || b) ≡ false
-or_false a b left right = ap₂ ◌||◌ left right
-
-or_parts : (a b : Bool) → (a || b) ≡ false → (a ≡ false) × (b ≡ false)
-or_parts true b holds = absurd (subst T holds tt)
-or_parts false b holds = (refl, holds)
+mapped f (conjunction s t) = conjunction (mapped f s) (mapped f t)
+mapped f (disjunction s t) = disjunction (mapped f s) (mapped f t)
 
 module _ (at : Point) where
   abbrev pub sign_at : Polynomial → Sign
   sign_at p = sign_of (value p at)
 
   abbrev holds : Shape Polynomial → Bool
-  holds s = is_true (mapped sign_at s)
+  holds s = is_met (mapped sign_at s)
 
-  is_so : (s : Shape Polynomial) (t : Bool) → Is (formula s) t at → holds s ≡ t
-  is_so (atom p signs) t truth = truth
-  is_so (both s u) true truth = and_true (holds s) (holds u) (is_so s true truth.0) (is_so u true truth.1.0)
-  is_so (both s u) false truth = and_false (holds s) (holds u) (elim truth [ inl x ↦ inl (is_so s false x) | inr y ↦ inr (elim y [ inl z ↦ is_so u false z | inr z ↦ absurd z ]) ])
-  is_so (either s u) true truth = or_true (holds s) (holds u) (elim truth [ inl x ↦ inl (is_so s true x) | inr y ↦ inr (elim y [ inl z ↦ is_so u true z | inr z ↦ absurd z ]) ])
-  is_so (either s u) false truth = or_false (holds s) (holds u) (is_so s false truth.0) (is_so u false truth.1.0)
+  shape_reads : (s : Shape Polynomial) → Reads at (holds s) (formula s)
+  shape_reads (atom p signs) = reads_atom at p signs (sign_at p) refl
+  shape_reads (conjunction s u) = reads_both at (holds s) (holds u) (formula s) (formula u) (shape_reads s) (shape_reads u)
+  shape_reads (disjunction s u) = reads_either at (holds s) (holds u) (formula s) (formula u) (shape_reads s) (shape_reads u)
 
-  so_is : (s : Shape Polynomial) (t : Bool) → holds s ≡ t → Is (formula s) t at
-  so_is (atom p signs) t truth = truth
-  so_is (both s u) true truth = let parts = and_parts (holds s) (holds u) truth in (so_is s true parts.0, (so_is u true parts.1, tt))
-  so_is (both s u) false truth = elim (and_some (holds s) (holds u) truth) [ inl x ↦ inl (so_is s false x) | inr y ↦ inr (inl (so_is u false y)) ]
-  so_is (either s u) true truth = elim (or_some (holds s) (holds u) truth) [ inl x ↦ inl (so_is s true x) | inr y ↦ inr (inl (so_is u true y)) ]
-  so_is (either s u) false truth = let parts = or_parts (holds s) (holds u) truth in (so_is s false parts.0, (so_is u false parts.1, tt))
-
-  pub truth_of : (s : Shape Polynomial) (x : Bool) → holds s ≡ x → (t : Bool) → Is (formula s) t at ↔ (x ≡ t)
-  truth_of s x same t = ((λ truth. sym same ∙ is_so s t truth), (λ equal. so_is s t (same ∙ equal)))
+  pub truth_of : (s : Shape Polynomial) (x : Bool) → holds s ≡ x → Reads at x (formula s)
+  truth_of s x same = rereads at (holds s) x (formula s) same (shape_reads s)
 
 -- what stands at the atoms may be changed before or after the shape is made
 side_shape-mapped : {X Y : Type 0} (f : X → Y) (zero : Bool) (a b n : X) → mapped f (side_shape zero a b n) ≡ side_shape zero (f a) (f b) (f n)
@@ -149,10 +109,10 @@ module _ (at : Point) (valid : IsPoint at) where
         (valid_ordered.sign-same (valid_operations.mul (w, root.number) (w, root.number)) (val r) root.square)) root.not-minus
 
     shape_is : (a b : Polynomial) (signs : Signs) → IsProper signs
-        → is_true (mapped (sign_at at) (sign_shape negative signs a b (product a b) (norm a b r))) ≡ has_sign signs (whole a b)
+        → is_met (mapped (sign_at at) (sign_shape negative signs a b (product a b) (norm a b r))) ≡ has_sign signs (whole a b)
     shape_is a b signs proper =
-        ap is_true (sign_shape-mapped (sign_at at) negative opposite signs a b (product a b) (norm a b r) (sign_of_negative a) (sign_of_negative b))
-        ∙ (ap₂ (λ e n. is_true (sign_shape opposite signs (sign_at at a) (sign_at at b) e n)) (sign_of_product a b) (sign_of_norm a b r)
+        ap is_met (sign_shape-mapped (sign_at at) negative opposite signs a b (product a b) (norm a b r) (sign_of_negative a) (sign_of_negative b))
+        ∙ (ap₂ (λ e n. is_met (sign_shape opposite signs (sign_at at a) (sign_at at b) e n)) (sign_of_product a b) (sign_of_norm a b r)
         ∙ (table signs proper (sign_at at r) (sign_at at a) (sign_at at b) (valid_sign (norm_value a b r)) radicand (norm_law a b r)
         ∙ ap (has_sign signs) (sym (whole_is a b))))
 

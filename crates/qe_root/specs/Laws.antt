@@ -18,7 +18,8 @@ pub record OneValue : Type 0 where
       → (v : Number) × IsValue k at v
   pub one : (k : RootPoint) (at : Point) → IsPoint at → (u v : Number) → IsValue k at u → IsValue k at v → Equal u v
 
--- the form for the sign of a + b*sqrt(r) says of the polynomial with these parts which sign it has at the root
+-- the formula for the sign of a + b*sqrt(r) tells the sign at the root of the polynomial with these
+-- parts
 abbrev pub SignAtRoot : Type 0
 SignAtRoot = (f : Polynomial) (x : ℕ) (k : RootPoint) (a b : Polynomial) (signs : Signs) (g : Formula)
     → AreParts f x k a b → IsSignForm a b k.r signs g

@@ -7,8 +7,9 @@ pub fn one_value()
     ensures { OneValue }
 {}
 
-/// Where `a` and `b` are the parts of a polynomial's value at a root, the formula for the sign of `a + b*sqrt(r)` is true at the
-/// points where the polynomial has an allowed sign at the root, and false at the others.
+/// Where `a` and `b` are the parts of a polynomial's value at a root, the formula for the sign of
+/// `a + b*sqrt(r)` is true at the points where the polynomial has an allowed sign at the root, and
+/// false at the others.
 pub fn sign_at_root()
     ensures { SignAtRoot }
 {}

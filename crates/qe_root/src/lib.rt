@@ -1,5 +1,6 @@
-//! Root points: the value of a polynomial at a root `(p + q*sqrt(r))/s` without computing the root, and the formula for its sign.
-//! Knows nothing of candidates and guards, nor of how the points come about.
+//! Root points: the value of a polynomial at a root `(p + q*sqrt(r))/s` without computing the root,
+//! and the formula for its sign. Knows nothing of candidates and guards, nor of how the points come
+//! about.
 #![tactic(auto)]
 
 mod form;

@@ -2,8 +2,8 @@
 
 use qe_poly::{Poly, Var};
 
-/// The root `(p + q*sqrt(r))/s`, by polynomials in the other variables. It has a value at each point where `s` is not 0 and
-/// `r` not negative.
+/// The root `(p + q*sqrt(r))/s`, by polynomials in the other variables. It has a value at each
+/// point where `s` is not 0 and `r` not negative.
 #[derive(Drop)]
 pub struct RootPoint {
     pub p: Poly,

@@ -1,7 +1,7 @@
 //! Why a substitution gives no formula.
 
 use qe_poly::PolyLimit;
-use std::alloc::{AllocError, AllocFailed};
+use std::alloc::AllocError;
 
 /// The step in which a limit was met.
 #[derive(Clone, Copy, Debug, PartialEq, Eq)]
@@ -19,7 +19,8 @@ pub enum Stage {
 /// Why a substitution gives no formula.
 #[derive(Clone, Copy, Debug, PartialEq, Eq)]
 pub enum SubstStop {
-    /// An operation on polynomials met a limit: at the atom with this number, counted from 0, in this step.
+    /// An operation on polynomials met a limit: at the atom with this number, counted from 0, in
+    /// this step.
     At {
         atom: u64,
         stage: Stage,
@@ -37,17 +38,6 @@ impl From<AllocError> for SubstStop {
     ghost from_gives = { λ _ e. e ≡ SubstStop.OutOfMemory };
 
     fn from(_error: AllocError) -> SubstStop {
-        SubstStop::OutOfMemory
-    }
-}
-
-impl<T: Drop> From<AllocFailed<T>> for SubstStop {
-    ghost use Rattle.std.specs.Prelude.{◌≡◌};
-    ghost use Rattle.qe_root.specs.declared.stop.SubstStop.{SubstStop};
-
-    ghost from_gives = { λ _ e. e ≡ SubstStop.OutOfMemory };
-
-    fn from(_error: AllocFailed<T>) -> SubstStop {
         SubstStop::OutOfMemory
     }
 }

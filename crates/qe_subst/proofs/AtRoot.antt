@@ -6,6 +6,7 @@ use Rattle.qe_line.specs.Place as line
 use Rattle.qe_poly.specs.Polynomial.{Polynomial, IsPolynomial}
 use Rattle.qe_poly.specs.Coefficients.{degree_in}
 use Rattle.qe_poly.specs.Equal.{poly_tells}
+use Rattle.qe_form.specs.Making.{constant}
 use Rattle.qe_form.specs.declared.signs.Signs.{Signs}
 use Rattle.qe_form.specs.Signs.{IsProper}
 use Rattle.qe_form.specs.Value.{value}
@@ -17,8 +18,8 @@ use Rattle.qe_root.specs.Holds.{IsZeroAt, OwnIsZero}
 use Rattle.qe_root.proofs.RootValue.{parts_are}
 use Rattle.qe_root.proofs.SignTruth.{form_is}
 use Rattle.qe_root.proofs.RootLaws.{sign_at_root}
-use Rattle.qe_subst.specs.Substituted.{constant, is_own, at_root}
-use Rattle.qe_subst.proofs.TestFormulas.{Reads, rereads, reads_constant}
+use Rattle.qe_subst.specs.Substituted.{is_own, at_root}
+use Rattle.qe_root.proofs.TestFormulas.{Reads, rereads, reads_constant}
 
 module _ (x : ℕ) (p : Point) (valid : IsPoint p) (k : RootPoint) (v : ValidNumber) (root : IsValue k p v.0) where
   -- the root's own polynomial is zero there

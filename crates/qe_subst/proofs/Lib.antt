@@ -1,9 +1,8 @@
-pub mod Slope
+pub mod Derivatives
 pub mod ProperSigns
 pub mod Made
 pub mod Sizes
 pub mod Turns
-pub mod TestFormulas
 pub mod SignTests
 pub mod Degrees
 pub mod OnLine

@@ -4,14 +4,16 @@ use Rattle.qe_poly.specs.Polynomial.{Polynomial}
 use Rattle.qe_poly.specs.Coefficients.{degree_in}
 use Rattle.qe_form.specs.declared.form.Form.{Form}
 use Rattle.qe_form.specs.declared.signs.Signs.{Signs}
+use Rattle.qe_form.specs.Signs.{is_even}
 use Rattle.qe_form.specs.Tree.{tree}
 use Rattle.qe_root.specs.declared.point.RootPoint.{RootPoint}
-use Rattle.qe_subst.specs.declared.stop.AtomStop.{AtomStop}
-use Rattle.qe_subst.specs.Fault.{IsOutcome}
-use Rattle.qe_subst.specs.Substituted.{is_even, everywhere, near, near_fault, above_root, above_root_fault}
+use Rattle.qe_halt.specs.declared.halt.Halt.{Halt}
+use Rattle.qe_subst.specs.declared.stop.Fault.{Fault}
+use Rattle.qe_halt.specs.Outcome.{IsOutcome}
+use Rattle.qe_subst.specs.Substituted.{everywhere, near, near_fault, above_root, above_root_fault}
 
 -- for the signs of an inequality
-pub near_made : (x : ℕ) (own : Option Polynomial) (k : RootPoint) (f : Polynomial) (signs : Signs) (n : ℕ) (result : Result Form AtomStop)
+pub near_made : (x : ℕ) (own : Option Polynomial) (k : RootPoint) (f : Polynomial) (signs : Signs) (n : ℕ) (result : Result Form (Halt Fault))
     → is_even signs ≡ false → n ≡ degree_in x f
     → IsOutcome (near_fault x own k n f signs) (λ g. tree g ≡ near x own k n f signs) result
     → IsOutcome (above_root_fault x own k f signs) (λ g. tree g ≡ above_root x own k f signs) result

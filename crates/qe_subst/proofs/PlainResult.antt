@@ -2,19 +2,20 @@
 use Rattle.std.proofs.Common.{ℕ, zero, suc, ◌≡◌, refl, subst, sym, Bool, true, false, cond, eqb, Option, lit<}
 use Rattle.qe_poly.specs.Polynomial.{Polynomial, negative, product}
 use Rattle.qe_poly.specs.Coefficients.{degree_in, derivative}
+use Rattle.qe_form.specs.Making.{atomic, constant}
 use Rattle.qe_form.specs.declared.form.Atom as atom
 use Rattle.qe_form.specs.declared.signs.Signs.{Signs}
-use Rattle.qe_form.specs.Signs.{IsProper}
+use Rattle.qe_form.specs.Signs.{IsProper, equal, is_even, strict}
 use Rattle.qe_form.specs.Formula.{Formula, Formulas, True, False, Atom, And, Or, no_more, more}
 use Rattle.qe_form.specs.Plain.{IsPlainAndProper, ArePlainWith}
 use Rattle.qe_root.specs.declared.point.RootPoint.{RootPoint}
 use Rattle.qe_root.specs.declared.point.Point.{Point}
 use Rattle.qe_root.specs.declared.point.Point.TheVariants.{Root, RootPlus, MinusInf}
-use Rattle.qe_root.specs.Outcome.{is_zero}
+use Rattle.qe_poly.specs.Numbers.{is_zero}
 use Rattle.qe_root.specs.Value.{plain_part_of, root_part_of}
 use Rattle.qe_root.specs.Shape.{formula}
-use Rattle.qe_root.specs.SignForm.{equal, zero_shape, side_shape, sign_shape, sign_formula, norm}
-use Rattle.qe_subst.specs.Substituted.{strict, is_even, is_own, constant, sign_is, at_root, near, each_coefficient, everywhere, line_below, square_below, at_minus_infinity, above_root, at_point, for_atom, substituted, substituted_each}
+use Rattle.qe_root.specs.SignForm.{zero_shape, side_shape, sign_shape, sign_formula, norm}
+use Rattle.qe_subst.specs.Substituted.{is_own, at_root, near, each_coefficient, everywhere, line_below, quadratic_below, at_minus_infinity, above_root, at_point, for_atom, substituted, substituted_each}
 use Rattle.qe_subst.proofs.ProperSigns.{strict_proper, mirror_proper, equal_proper}
 
 constant_plain : (b : Bool) → IsPlainAndProper (constant b)
@@ -42,7 +43,7 @@ shape_plain s a b e n = by_sides s.minus s.plus
 
 sign_plain : (a b r : Polynomial) (s : Signs) → IsProper s → IsPlainAndProper (sign_formula a b r s)
 sign_plain a b r s proper =
-    elim (is_zero b) as (λ t. IsPlainAndProper (cond t (sign_is a s) (formula (sign_shape negative s a b (product a b) (norm a b r))))) [
+    elim (is_zero b) as (λ t. IsPlainAndProper (cond t (atomic a s) (formula (sign_shape negative s a b (product a b) (norm a b r))))) [
       | true ↦ proper
       | false ↦ shape_plain s a b (product a b) (norm a b r)
     ]
@@ -76,11 +77,11 @@ module _ (x : ℕ) (own : Option Polynomial) where
 
   below_plain : (f : Polynomial) (s : Signs) → IsProper s → IsPlainAndProper (at_minus_infinity x f s)
   below_plain f s proper =
-      elim (is_even s) as (λ t. is_even s ≡ t → IsPlainAndProper (cond t (everywhere x f s) (cond (eqb (degree_in x f) 1) (line_below x f s) (square_below x f s)))) [
+      elim (is_even s) as (λ t. is_even s ≡ t → IsPlainAndProper (cond t (everywhere x f s) (cond (eqb (degree_in x f) 1) (line_below x f s) (quadratic_below x f s)))) [
         | true ↦ λ even. everywhere_plain f s proper
-        | false ↦ λ uneven. elim (eqb (degree_in x f) 1) as (λ t. IsPlainAndProper (cond t (line_below x f s) (square_below x f s))) [
+        | false ↦ λ uneven. elim (eqb (degree_in x f) 1) as (λ t. IsPlainAndProper (cond t (line_below x f s) (quadratic_below x f s))) [
           | true ↦ (mirror_proper s uneven, ((equal_proper, (proper, tt)), tt))
-          | false ↦ (strict_proper s proper uneven, ((equal_proper, (mirror_proper s uneven, tt)), ((equal_proper, (equal_proper, (proper, tt))), tt)))
+          | false ↦ (strict_proper s uneven, ((equal_proper, (mirror_proper s uneven, tt)), ((equal_proper, (equal_proper, (proper, tt))), tt)))
         ]
       ] refl
 
@@ -88,7 +89,7 @@ module _ (x : ℕ) (own : Option Polynomial) where
   above_plain k f s proper =
       elim (is_even s) as (λ t. is_even s ≡ t → IsPlainAndProper (cond t (everywhere x f s) (near x own k (degree_in x f) f s))) [
         | true ↦ λ even. everywhere_plain f s proper
-        | false ↦ λ uneven. near_plain k (degree_in x f) f s proper (strict_proper s proper uneven)
+        | false ↦ λ uneven. near_plain k (degree_in x f) f s proper (strict_proper s uneven)
       ] refl
 
   point_plain : (point : Point) (f : Polynomial) (s : Signs) → IsProper s → IsPlainAndProper (at_point x point own f s)

@@ -3,39 +3,30 @@ use Rattle.std.proofs.Common.{◌≡◌, ◌∙◌, refl, sym, ap, Bool, true, f
 use Rattle.qe_ring.specs.Sign.{Sign, Minus, Zero, Plus, is, opposite}
 use Rattle.qe_line.specs.Quadratic.{first_sign}
 use Rattle.qe_form.specs.declared.signs.Signs.{Signs}
-use Rattle.qe_form.specs.Signs.{mirror}
+use Rattle.qe_form.specs.Signs.{mirror, equal, not_equal, strict}
 use Rattle.qe_form.specs.Truth.{has_sign}
-use Rattle.qe_root.specs.SignForm.{equal, not_equal}
-use Rattle.qe_subst.specs.Substituted.{strict}
-
-end_or : (b : Bool) → (b || false) ≡ b
-end_or true = refl
-end_or false = refl
-
-ends : (b : Bool) → ((b && true) || false) ≡ b
-ends true = refl
-ends false = refl
+use Rattle.qe_root.proofs.TestFormulas.{or_last}
 
 -- ---- the first of two signs that is not zero
 
-pub near_test : (s : Signs) (x y : Sign) → (has_sign (strict s) x || ((has_sign equal x && (has_sign s y && true)) || false)) ≡ has_sign s (first_sign x y)
-near_test s Minus y = end_or s.minus
-near_test s Zero y = ends (has_sign s y)
-near_test s Plus y = end_or s.plus
+pub near_test : (s : Signs) (x y : Sign) → (has_sign (strict s) x || (has_sign equal x && has_sign s y)) ≡ has_sign s (first_sign x y)
+near_test s Minus y = or_last s.minus
+near_test s Zero y = refl
+near_test s Plus y = or_last s.plus
 
-pub line_test : (s : Signs) (x y : Sign) → (has_sign (mirror (strict s)) x || ((has_sign equal x && (has_sign s y && true)) || false)) ≡ has_sign s (first_sign (opposite x) y)
-line_test s Minus y = end_or s.plus
-line_test s Zero y = ends (has_sign s y)
-line_test s Plus y = end_or s.minus
+pub line_test : (s : Signs) (x y : Sign) → (has_sign (mirror (strict s)) x || (has_sign equal x && has_sign s y)) ≡ has_sign s (first_sign (opposite x) y)
+line_test s Minus y = or_last s.plus
+line_test s Zero y = refl
+line_test s Plus y = or_last s.minus
 
-pub square_test : (s : Signs) (x y z : Sign)
-    → (has_sign (strict s) x || ((has_sign equal x && (has_sign (mirror (strict s)) y && true)) || ((has_sign equal x && (has_sign equal y && (has_sign s z && true))) || false)))
+pub quadratic_test : (s : Signs) (x y z : Sign)
+    → (has_sign (strict s) x || ((has_sign equal x && has_sign (mirror (strict s)) y) || (has_sign equal x && (has_sign equal y && has_sign s z))))
     ≡ has_sign s (first_sign x (first_sign (opposite y) z))
-square_test s Minus y z = end_or s.minus
-square_test s Plus y z = end_or s.plus
-square_test s Zero Minus z = ends s.plus
-square_test s Zero Zero z = ends (has_sign s z)
-square_test s Zero Plus z = ends s.minus
+quadratic_test s Minus y z = or_last s.minus
+quadratic_test s Plus y z = or_last s.plus
+quadratic_test s Zero Minus z = or_last s.plus
+quadratic_test s Zero Zero z = refl
+quadratic_test s Zero Plus z = or_last s.minus
 
 -- ---- zero everywhere
 
@@ -49,27 +40,20 @@ not_equal_test Minus = refl
 not_equal_test Zero = refl
 not_equal_test Plus = refl
 
-all_three : (a b c : Bool) → (a && (b && (c && true))) ≡ (a && (b && c))
-all_three true true true = refl
-all_three true true false = refl
-all_three true false c = refl
-all_three false b c = refl
-
-some_of_three : (a b c : Bool) → (not a || (not b || (not c || false))) ≡ not (a && (b && c))
-some_of_three true true true = refl
-some_of_three true true false = refl
+some_of_three : (a b c : Bool) → (not a || (not b || not c)) ≡ not (a && (b && c))
+some_of_three true true c = refl
 some_of_three true false c = refl
 some_of_three false b c = refl
 
 -- t is zero only where x, y and z are
-pub each_zero : (t x y z : Sign) → is t Zero ≡ (is x Zero && (is y Zero && is z Zero)) → (has_sign equal x && (has_sign equal y && (has_sign equal z && true))) ≡ has_sign equal t
+pub each_zero : (t x y z : Sign) → is t Zero ≡ (is x Zero && (is y Zero && is z Zero)) → (has_sign equal x && (has_sign equal y && has_sign equal z)) ≡ has_sign equal t
 each_zero t x y z same =
-    (λ i. equal_test x i && (equal_test y i && (equal_test z i && true))) ∙ (all_three (is x Zero) (is y Zero) (is z Zero) ∙ (sym same ∙ sym (equal_test t)))
+    (λ i. equal_test x i && (equal_test y i && equal_test z i)) ∙ (sym same ∙ sym (equal_test t))
 
 pub some_not_zero : (t x y z : Sign) → is t Zero ≡ (is x Zero && (is y Zero && is z Zero))
-    → (has_sign not_equal x || (has_sign not_equal y || (has_sign not_equal z || false))) ≡ has_sign not_equal t
+    → (has_sign not_equal x || (has_sign not_equal y || has_sign not_equal z)) ≡ has_sign not_equal t
 some_not_zero t x y z same =
-    (λ i. not_equal_test x i || (not_equal_test y i || (not_equal_test z i || false)))
+    (λ i. not_equal_test x i || (not_equal_test y i || not_equal_test z i))
     ∙ (some_of_three (is x Zero) (is y Zero) (is z Zero) ∙ (ap not (sym same) ∙ sym (not_equal_test t)))
 
 -- below all numbers

@@ -14,7 +14,7 @@ use Rattle.qe_poly.specs.Polynomial.{Polynomial, IsPolynomial}
 use Rattle.qe_poly.specs.Coefficients.{degree_in}
 use Rattle.qe_form.specs.declared.form.Atom as atom
 use Rattle.qe_form.specs.declared.signs.Signs.{Signs}
-use Rattle.qe_form.specs.Signs.{IsProper}
+use Rattle.qe_form.specs.Signs.{IsProper, is_even}
 use Rattle.qe_form.specs.Formula.{Formula, Formulas, True, False, Atom, And, Or, no_more, more}
 use Rattle.qe_form.specs.Measures.{degree, degree_of_some}
 use Rattle.qe_form.specs.Plain.{IsPlainAndProper, ArePlainWith}
@@ -23,11 +23,12 @@ use Rattle.qe_form.specs.Truth.{has_sign, Is, EachIs, SomeIs}
 use Rattle.qe_root.specs.declared.point.Point as code
 use Rattle.qe_root.specs.declared.point.Point.TheVariants.{Root, RootPlus, MinusInf}
 use Rattle.qe_root.specs.Holds.{StandsAt, OwnIsZero, StandsFor}
-use Rattle.qe_subst.specs.Canonical.{IsCanonical, AreCanonical}
-use Rattle.qe_subst.specs.Substituted.{is_even, everywhere, near, at_point, for_atom, substituted, substituted_each}
+use Rattle.qe_root.specs.Atoms.{HasCanonicalAtoms, HaveCanonicalAtoms}
+use Rattle.qe_subst.specs.Substituted.{everywhere, near, at_point, for_atom, substituted, substituted_each}
 use Rattle.qe_subst.proofs.ProperSigns.{strict_proper}
-use Rattle.qe_subst.proofs.TestFormulas.{Reads, rereads, reads_sign}
-use Rattle.qe_subst.proofs.OnLine.{at_number, coefficient, HoldsThere, sign_at_place, sign_with, sign_there, sign_stays}
+use Rattle.qe_root.proofs.TestFormulas.{Reads, rereads, reads_atom}
+use Rattle.qe_root.proofs.OnLine.{at_number, coefficient, sign_with}
+use Rattle.qe_subst.proofs.OnLine.{HoldsThere, sign_at_place, sign_there, sign_stays}
 use Rattle.qe_subst.proofs.AtRoot.{at_root_reads}
 use Rattle.qe_subst.proofs.JustAbove.{near_reads}
 use Rattle.qe_subst.proofs.FarBelow.{everywhere_reads, below_reads}
@@ -57,7 +58,7 @@ module _ (x : ℕ) (p : Point) (valid : IsPoint p) (own : Option Polynomial) whe
     point_reads (RootPlus r) (line.above v) stands zero =
         elim (is_even s) as (λ b. is_even s ≡ b → Reads p (has_sign s (sign_at_place x p valid (line.above v) f)) (cond b (everywhere x f s) (near x own r (degree_in x f) f s))) [
           | true ↦ λ even. everywhere_reads x p valid f (sign_at_place x p valid (line.above v) f) (zero_near numbers (coefficient x p valid 2 f) (coefficient x p valid 1 f) (coefficient x p valid 0 f) v) s proper even positive low
-          | false ↦ λ uneven. near_reads x p valid v r stands own (zero_at own v zero) s (strict_proper s proper uneven) (degree_in x f) f canonical refl low
+          | false ↦ λ uneven. near_reads x p valid v r stands own (zero_at own v zero) s (strict_proper s uneven) (degree_in x f) f canonical refl low
         ] refl
     point_reads (RootPlus r) (line.at v) stands zero = absurd stands
     point_reads (RootPlus r) line.below stands zero = absurd stands
@@ -89,7 +90,7 @@ module _ (x : ℕ) (p : Point) (valid : IsPoint p) (own : Option Polynomial) whe
         elim (eqb (degree_in x a.poly) 0) as (λ b. eqb (degree_in x a.poly) 0 ≡ b → Stands (Atom a) (cond b (Atom a) (at_point x point own a.poly a.signs))) [
           | true ↦ λ none. let free : degree_in x a.poly < 1 = (let d = eqb-true (degree_in x a.poly) 0 none in omega (arith, d)) in
               atom_stands a (sign_of (value a.poly p)) (Atom a) (here numbers k (λ u. sign_with x p valid a.poly canonical low u ∙ sign_stays x p valid a.poly canonical free u))
-              (reads_sign p a.poly a.signs (sign_of (value a.poly p)) refl)
+              (reads_atom p a.poly a.signs (sign_of (value a.poly p)) refl)
           | false ↦ λ some. atom_stands a (sign_at_place x p valid k a.poly) (at_point x point own a.poly a.signs) (sign_there x p valid a.poly canonical low k)
               (point_reads a.poly canonical (positive (degree_in x a.poly) some) low a.signs proper point k stands zero)
         ] refl
@@ -98,7 +99,7 @@ module _ (x : ℕ) (p : Point) (valid : IsPoint p) (own : Option Polynomial) whe
         positive i some = grind (arith, nat_tests)
 
     mutual
-      substituted_stands : (f : Formula) → degree x f ≤ 2 → IsPlainAndProper f → IsCanonical f → Stands f (substituted x point own f)
+      substituted_stands : (f : Formula) → degree x f ≤ 2 → IsPlainAndProper f → HasCanonicalAtoms f → Stands f (substituted x point own f)
       substituted_stands True low plain canonical = here numbers k (λ u t. same_way)
       substituted_stands False low plain canonical = here numbers k (λ u t. same_way)
       substituted_stands (Atom a) low plain canonical = for_atom_stands a canonical low plain
@@ -106,7 +107,7 @@ module _ (x : ℕ) (p : Point) (valid : IsPoint p) (own : Option Polynomial) whe
       substituted_stands (Or fs) low plain canonical = or_stands fs (substituted_each x point own fs) (each_stands fs low plain canonical)
       substituted_stands f low plain canonical = absurd plain
 
-      each_stands : (fs : Formulas) → degree_of_some x fs ≤ 2 → ArePlainWith (λ a. IsProper a.signs) fs → AreCanonical fs → StandEach fs (substituted_each x point own fs)
+      each_stands : (fs : Formulas) → degree_of_some x fs ≤ 2 → ArePlainWith (λ a. IsProper a.signs) fs → HaveCanonicalAtoms fs → StandEach fs (substituted_each x point own fs)
       each_stands no_more low plain canonical = here numbers k (λ u t. (same_way, same_way))
       each_stands (more f fs) low plain canonical =
           then numbers (both numbers (substituted_stands f (omega arith) plain.0 canonical.0) (each_stands fs (omega arith) plain.1 canonical.1))
@@ -117,11 +118,11 @@ module _ (x : ℕ) (p : Point) (valid : IsPoint p) (own : Option Polynomial) whe
     settled f g h b = ((λ t. then numbers h (λ u e. (e b).1 t)), (λ t. let w = some numbers (both numbers h t) in (w.1.0 b).0 w.1.1))
 
 -- the law, for the formula of the definition
-pub substituted_means : (x : ℕ) (point : code.Point) (own : Option Polynomial) (f : Formula) → degree x f ≤ 2 → IsPlainAndProper f → IsCanonical f → StandsFor x point own f (substituted x point own f)
+pub substituted_means : (x : ℕ) (point : code.Point) (own : Option Polynomial) (f : Formula) → degree x f ≤ 2 → IsPlainAndProper f → HasCanonicalAtoms f → StandsFor x point own f (substituted x point own f)
 substituted_means x point own f low plain canonical at valid k stands zero b =
     let s = settled x at valid own point k stands zero f (substituted x point own f) (substituted_stands x at valid own point k stands zero f low plain canonical) b in
     ((λ t. (s.0 t).is), (λ t. s.1 (record { is = t })))
 
 -- for the formula of the code
-pub made_means : (x : ℕ) (point : code.Point) (own : Option Polynomial) (f g : Formula) → degree x f ≤ 2 → IsPlainAndProper f → IsCanonical f → g ≡ substituted x point own f → StandsFor x point own f g
+pub made_means : (x : ℕ) (point : code.Point) (own : Option Polynomial) (f g : Formula) → degree x f ≤ 2 → IsPlainAndProper f → HasCanonicalAtoms f → g ≡ substituted x point own f → StandsFor x point own f g
 made_means x point own f g low plain canonical made = subst (λ h. StandsFor x point own f h) (sym made) (substituted_means x point own f low plain canonical)

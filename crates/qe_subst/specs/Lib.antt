@@ -2,4 +2,3 @@ pub mod Fault
 pub mod Substituted
 pub mod Stop
 pub mod Left
-pub mod Canonical

@@ -1,33 +1,39 @@
 -- Why a substitution gives no formula.
-use Rattle.std.specs.Prelude.{ℕ, ◌+◌, ◌-◌, ◌^◌, min, cond, ltb, List, [], ◌∷◌, Option, None, Some, Result, Ok, Err, ◌≡◌}
+use Rattle.std.specs.Prelude.{ℕ, ◌+◌, ◌-◌, ◌^◌, min, cond, ltb, List, [], ◌∷◌, Option, None, Some}
+use Rattle.qe_halt.specs.Outcome.{or_else, within}
 use Rattle.qe_poly.specs.Polynomial.{Polynomial}
 use Rattle.qe_form.specs.declared.form.Atom as atom
 use Rattle.qe_form.specs.Formula.{Formula}
 use Rattle.qe_form.specs.Measures.{count}
 use Rattle.qe_root.specs.declared.point.Point.{Point}
 use Rattle.qe_root.specs.declared.stop.SubstStop.{SubstStop}
-use Rattle.qe_root.specs.declared.stop.SubstStop.TheVariants.{At, TooLarge, OutOfMemory}
+use Rattle.qe_root.specs.declared.stop.SubstStop.TheVariants.{At, TooLarge}
 use Rattle.qe_root.specs.Atoms.{atoms}
-use Rattle.qe_subst.specs.Substituted.{substituted, fault_of}
+use Rattle.qe_subst.specs.declared.stop.Fault.{Fault}
+use Rattle.qe_subst.specs.Substituted.{substituted, atom_fault}
 
 -- the next number, up to the greatest of 64 bits, which no formula in a memory reaches
-abbrev pub next : ℕ → ℕ
-next n = min (n + 1) (2 ^ 64 - 1)
+abbrev pub next_number : ℕ → ℕ
+next_number n = min (n + 1) (2 ^ 64 - 1)
 
 -- the number after those of atoms of which the first has number n
-abbrev pub after : ℕ → List atom.Atom → ℕ
-after n [] = n
-after n (a ∷ rest) = after (next n) rest
+abbrev pub number_after : ℕ → List atom.Atom → ℕ
+number_after n [] = n
+number_after n (a ∷ rest) = number_after (next_number n) rest
+
+-- a fault at the atom with number n
+abbrev pub at_atom : ℕ → Fault → SubstStop
+at_atom n fault = At n fault.stage fault.limit
 
 module _ (x : ℕ) (point : Point) (own : Option Polynomial) where
   -- the limit at the atom with number n
   abbrev pub limit_at : ℕ → atom.Atom → Option SubstStop
-  limit_at n a = elim (fault_of x point own a) [ Some fault ↦ Some (At n fault.stage fault.limit) | None ↦ None ]
+  limit_at n a = within (at_atom n) (atom_fault x point own a)
 
   -- the first limit in the order of the atoms, of which the first has number n
-  abbrev pub first_limit : ℕ → List atom.Atom → Option SubstStop
-  first_limit n [] = None
-  first_limit n (a ∷ rest) = elim (fault_of x point own a) [ Some fault ↦ Some (At n fault.stage fault.limit) | None ↦ first_limit (next n) rest ]
+  abbrev pub first_stop : ℕ → List atom.Atom → Option SubstStop
+  first_stop n [] = None
+  first_stop n (a ∷ rest) = or_else (limit_at n a) (first_stop (next_number n) rest)
 
   -- the formula would have more than 65,536 atoms, constants counted
   abbrev pub size_limit : Formula → Option SubstStop
@@ -35,14 +41,4 @@ module _ (x : ℕ) (point : Point) (own : Option Polynomial) where
 
   -- a limit at an atom comes first
   abbrev pub stop : Formula → Option SubstStop
-  stop f = elim (first_limit 0 (atoms f)) [ Some met ↦ Some met | None ↦ size_limit f ]
-
--- the stop is that one, or want of memory
-abbrev pub IsStop : Option SubstStop → SubstStop → Type 0
-IsStop limit OutOfMemory = Unit {0}
-IsStop limit met = limit ≡ Some met
-
--- the stop where there is one, and else a result of which P holds; want of memory may come in place of either
-abbrev pub IsOutcome : {A : Type 0} → Option SubstStop → (A → Type 0) → Result A SubstStop → Type 0
-IsOutcome limit P (Ok a) = (limit ≡ None) × P a
-IsOutcome limit P (Err met) = IsStop limit met
+  stop f = or_else (first_stop 0 (atoms f)) (size_limit f)

@@ -1,14 +1,11 @@
-//! Substitution of a test point for a variable of degree two at most: at a root, just above a root, or below all numbers.
-//! Knows nothing of candidates, guards and nodes, nor of how a formula is simplified.
+//! Substitution of a test point for a variable of degree two at most: at a root, just above a root,
+//! or below all numbers. Knows nothing of candidates, guards and nodes, nor of how a formula is
+//! simplified.
 #![tactic(auto)]
 
-mod atom;
 mod below;
-mod connective;
 mod formula;
-mod near;
 mod root;
-mod signs;
 mod stop;
 
 pub use formula::substitute;

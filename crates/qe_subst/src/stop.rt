@@ -1,51 +1,28 @@
 //! Why there is no formula for an atom.
 
+ghost use Rattle.std.specs.Prelude.{◌≡◌};
+ghost use Rattle.qe_halt.specs.Outcome.{stop_within};
+ghost use Rattle.qe_subst.specs.Fault.{fault_in};
+
+use qe_halt::Halt;
 use qe_root::{PolyLimit, PolyStop, Stage};
-use std::alloc::{AllocError, AllocFailed};
+
+/// A limit that an operation on polynomials met, and the step in which it did.
+#[derive(Clone, Copy)]
+pub struct Fault {
+    pub stage: Stage,
+    pub limit: PolyLimit,
+}
 
 /// Why there is no formula for an atom.
-#[derive(Clone, Copy)]
-pub enum AtomStop {
-    /// An operation on polynomials met a limit in this step.
-    Limit(Stage, PolyLimit),
-    OutOfMemory,
-}
+pub type AtomStop = Halt<Fault>;
 
-impl AtomStop {
-    ghost use Rattle.qe_poly.specs.Limits as poly;
-    ghost use Rattle.std.specs.Prelude.{Option};
-    ghost use Rattle.qe_poly.specs.declared.limit.PolyLimit.{PolyLimit as TheLimit};
-    ghost use Rattle.qe_subst.specs.Fault.{IsStop, in_stage};
-
-    /// The stop of an operation, in its step.
-    pub fn of(stage: Stage, stop: PolyStop) -> AtomStop
-        ensures { (limit : Option TheLimit) → poly.IsStop limit stop → IsStop (in_stage stage limit) result }
-    {
-        match stop {
-            PolyStop::Limit(limit) => AtomStop::Limit(stage, limit),
-            PolyStop::OutOfMemory => AtomStop::OutOfMemory,
-        }
-    }
-}
-
-impl From<AllocError> for AtomStop {
-    ghost use Rattle.std.specs.Prelude.{◌≡◌};
-    ghost use Rattle.qe_subst.specs.declared.stop.AtomStop.{AtomStop};
-
-    ghost from_gives = { λ _ e. e ≡ AtomStop.OutOfMemory };
-
-    fn from(_error: AllocError) -> AtomStop {
-        AtomStop::OutOfMemory
-    }
-}
-
-impl<T: Drop> From<AllocFailed<T>> for AtomStop {
-    ghost use Rattle.std.specs.Prelude.{◌≡◌};
-    ghost use Rattle.qe_subst.specs.declared.stop.AtomStop.{AtomStop};
-
-    ghost from_gives = { λ _ e. e ≡ AtomStop.OutOfMemory };
-
-    fn from(_error: AllocFailed<T>) -> AtomStop {
-        AtomStop::OutOfMemory
+/// The stop of an operation, in this step.
+pub fn stop_in(stage: Stage, stop: PolyStop) -> AtomStop
+    ensures { result ≡ stop_within (fault_in stage) stop }
+{
+    match stop {
+        PolyStop::Limit(limit) => AtomStop::Limit(Fault { stage, limit }),
+        PolyStop::OutOfMemory => AtomStop::OutOfMemory,
     }
 }

@@ -8,7 +8,8 @@ use Rattle.qe_ring.proofs.Bools.{both_hold}
 use Rattle.qe_poly.specs.declared.monomial.Var.{Var}
 use Rattle.qe_form.specs.Formula.{Formula}
 use Rattle.qe_form.specs.Measures.{degree}
-use Rattle.qe_points.specs.Choice.{first_of_degree, or_else, choice}
+use Rattle.qe_halt.specs.Outcome.{or_else}
+use Rattle.qe_points.specs.Choice.{first_of_degree, choice}
 use Rattle.qe_points.specs.Candidates.{candidates}
 use Rattle.qe_form.specs.Measures.{occurs}
 use Rattle.qe_tree.specs.Variables.{remaining}

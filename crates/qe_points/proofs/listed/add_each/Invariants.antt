@@ -1,6 +1,0 @@
-use Rattle.std.proofs.Common.{◌≡◌, ◌++◌}
-use Rattle.qe_points.specs.Candidates.{roots}
-use Rattle.qe_points.proofs.listed.add_each.Given as goal
-
-abbrev pub invariant-loop-poly : goal.invariant-loop-poly
-invariant-loop-poly l = l.candidates.items ++ roots l.x.0 l.plus l.poly-iterator ≡ l.initial.candidates.items ++ roots l.x.0 l.plus l.fn.found.entries
