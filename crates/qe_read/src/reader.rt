@@ -24,7 +24,7 @@ use qe_token::tokens;
 use std::alloc::Global;
 use std::str;
 
-/// A name of its own memory.
+/// The letters of a name as a text of its own.
 fn spelled(alloc: Global, letters: &[u8]) -> Result<String, OutOfMemory>
     requires { IsUtf8 letters.now }
     ensures { IfOk result (λ name. string_bytes name ≡ letters.now) }

@@ -29,7 +29,7 @@ abbrev mutual
   begun_each no_more = 0
   begun_each (more f fs) = begun_in f + begun_each fs
 
--- one more where a mark begins something
+-- one more where an occurrence begins something
 abbrev pub one_if : Bool → ℕ → ℕ
 one_if b k = if b then k + 1 else k
 

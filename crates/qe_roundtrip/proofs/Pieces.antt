@@ -11,7 +11,7 @@ use Rattle.qe_token.specs.Tokens.{AreBlanks, AreTokens, Spells, extends, makes_r
 use Rattle.qe_syntax.specs.Grammar.{Occurrence, tokens_of, with_end}
 use Rattle.qe_syntax.proofs.Clean.{Fits, AllFit}
 
--- From this place on, the bytes are the tokens of these marks, and no number among them is too great.
+-- From this place on, the bytes are the tokens of these occurrences, and no number among them is too great.
 pub record Reads (place : ℕ) (bytes : List ℕ) (ms : List Occurrence) : Type 0 where
   pub tokens : List Located
   pub are : AreTokens place bytes tokens
@@ -88,7 +88,7 @@ ends_before word (b ∷ rest) h = stays word b h
 
 -- ---- pieces of a text: what stands behind them is read as it is
 
--- The text at this place is the tokens of marks, which are put before those of what follows, if this parts from it.
+-- The text at this place is the tokens of occurrences, which are put before those of what follows, if this parts from it.
 pub record Open (place : ℕ) (text : List ℕ) (put : List Occurrence → List Occurrence) : Type 0 where
   pub reads : (rest : List ℕ) (ms : List Occurrence) → Parts rest → Reads (place + length text) rest ms → Reads place (text ++ rest) (put ms)
 

@@ -25,7 +25,7 @@ use Rattle.qe_syntax.proofs.Formulas.{constant_head, not_head, bracket_head, som
 
 -- ---- a term begins nothing, but an atom begins at its first token
 
--- nothing begins at these marks
+-- nothing begins at these occurrences
 abbrev BeginsNone : List Occurrence → Type 0
 BeginsNone [] = Unit {0}
 BeginsNone (m ∷ ms) = (m.begins ≡ false) × BeginsNone ms
@@ -62,7 +62,7 @@ mutual
   primary_none depth (name x) r h = (refl, h)
   primary_none depth (group t) r h = (refl, term_none (depth + 1) t (plain token.CloseParenthesis ∷ r) (refl, h))
 
--- the marks of an atom whose first term has these
+-- the occurrences of an atom whose first term has these
 abbrev beginning : List Occurrence → List Occurrence
 beginning [] = []
 beginning (m ∷ ms) = record { token = m.token; opens = m.opens; role = m.role; begins = true } ∷ ms
@@ -119,7 +119,7 @@ clean_none : (b c : ℕ) (ms : List Occurrence) → BeginsNone ms → IsClean b 
 clean_none b c [] h k = tt
 clean_none b c (m ∷ ms) h k = (fault_none c b m h.0 ∙ k.0, clean_none (counted b (m ∷ [])) (counted c (m ∷ [])) ms h.1 k.1)
 
--- the first mark of an atom has no fault of its own, where the atom may begin
+-- the first occurrence of an atom has no fault of its own, where the atom may begin
 fault_begun : (b : ℕ) (m : Occurrence) → m.begins ≡ false → nat_le 65536 b ≡ false → passed_limit b (record { token = m.token; opens = m.opens; role = m.role; begins = true }) ≡ passed_limit 0 m
 fault_begun b m h k = ap (λ (x : Bool). fault_with x m) k ∙ sym (ap (λ (x : Bool). fault_with (if x then nat_le 65536 0 else false) m) h)
 
@@ -127,7 +127,7 @@ clean_begun : (b : ℕ) (ms : List Occurrence) → BeginsNone ms → nat_le 6553
 clean_begun b [] h k c = tt
 clean_begun b (m ∷ ms) h k c = (fault_begun b m h.0 k ∙ c.0, clean_none (counted 0 (m ∷ [])) (b + 1) ms h.1 c.1)
 
--- at least one mark
+-- at least one occurrence
 abbrev NotEmpty : List Occurrence → Type 0
 NotEmpty [] = ⊥
 NotEmpty (m ∷ ms) = Unit {0}
@@ -525,7 +525,7 @@ close_err depth (halt.Limit Exponent) value old mid ts new b c d h k r s = absur
 close_err depth (halt.Limit TooDeep) value old mid ts new b c d h k r s = absurd s
 close_err depth (halt.Limit TooMany) value old mid ts new b c d h k r s = absurd s
 
--- the marks of a formula in brackets
+-- the occurrences of a formula in brackets
 abbrev in_brackets : ℕ → Formula → List Occurrence
 in_brackets depth f = opener token.OpenBracket depth false ∷ (formula (depth + 1) f [] ++ plain token.CloseBracket ∷ [])
 

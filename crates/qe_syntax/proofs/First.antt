@@ -17,7 +17,7 @@ use Rattle.qe_syntax.proofs.Spelling.{tokens_of-append, formula-append, one_form
 use Rattle.qe_syntax.proofs.Within.{clean-append}
 use Rattle.qe_syntax.proofs.Terms.{some_first, length-with_end}
 
--- As far as the tokens are the same, the marks are.
+-- As far as the tokens are the same, the occurrences are.
 abbrev pub Agree : List Occurrence → List Occurrence → Type 0
 Agree [] n = Unit {0}
 Agree (x ∷ m) [] = Unit {0}

@@ -29,7 +29,7 @@ one_value before t f g a b =
 no_syntax : (before : List Tok) (t : Tok) (f : TextFault) → IsFaultAt before t Syntax → HasLimit before t f → ⊥
 no_syntax before t f s a = s a.0 (tokens_of a.3) (ap tokens_of a.4 ∙ tokens_of-append a.1 (a.2 ∷ a.3) ∙ ap (λ (x : List Tok). x ++ a.2.token ∷ tokens_of a.3) a.5 ∙ ap (λ (x : Tok). before ++ x ∷ tokens_of a.3) a.6)
 
--- a fault is a syntax fault, or that of a mark
+-- a fault is a syntax fault, or that of an occurrence
 kind : (before : List Tok) (t : Tok) (f : TextFault) → IsFaultAt before t f → ((f ≡ Syntax) × IsFaultAt before t Syntax) ⊎ HasLimit before t f
 kind before t Syntax a = inl (refl, a)
 kind before t Wide a = inr a

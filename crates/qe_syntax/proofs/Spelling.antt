@@ -15,7 +15,7 @@ pub tokens_of-append : (m n : List Occurrence) → tokens_of (m ++ n) ≡ tokens
 tokens_of-append [] n = refl
 tokens_of-append (x ∷ m) n = ap (λ (ts : List Tok). x.token ∷ ts) (tokens_of-append m n)
 
--- marks for tokens
+-- occurrences for tokens
 abbrev pub marks : List Tok → List Occurrence
 marks [] = []
 marks (t ∷ ts) = record { token = t; opens = None; role = literal; begins = false } ∷ marks ts
@@ -196,7 +196,7 @@ starts_simple (Some token.False) = true
 starts_simple (Some token.OpenBracket) = true
 starts_simple t = starts_term t
 
--- the first mark
+-- the first occurrence
 pub record Begins (starts : Tok → Bool) (ms : List Occurrence) : Type 0 where
   pub mark : Occurrence
   pub others : List Occurrence
@@ -263,7 +263,7 @@ begins_else starts ms t us w h e =
     let g : w.mark.token ≡ t = cc in
     let i : true ≡ false = sym w.starts_with ∙ ap starts g ∙ h in absurd cc
 
--- A relation that holds of two lists if, where the first tokens are one, the first marks are one and it holds of the rest:
+-- A relation that holds of two lists if, where the first tokens are one, the first occurrences are one and it holds of the rest:
 -- it holds of what two derivations spell if, where the derivations are one, it holds of what follows.
 module _ (R : List Occurrence → List Occurrence → Type 0) (step : (x y : Occurrence) (m n : List Occurrence) → (x.token ≡ y.token → (x ≡ y) × R m n) → R (x ∷ m) (y ∷ n)) where
   left_else : (starts : Tok → Bool) (x : Occurrence) (q ms : List Occurrence) → starts x.token ≡ false → Begins starts ms → R (x ∷ q) ms

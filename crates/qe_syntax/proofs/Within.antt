@@ -113,7 +113,7 @@ abbrev pub IsValue : TextFault → Type 0
 IsValue Syntax = ⊥
 IsValue f = Unit {0}
 
--- a fault at a mark of the part itself
+-- a fault at an occurrence of the part itself
 module _ {A : Type 0} (spell : A → List Occurrence → List Occurrence) (goes_on : Tok → Bool) where
   value_at : (f : TextFault) (c : ℕ) (before : List Occurrence) (m : Occurrence) (more : List Occurrence) (mid : List Tok) → IsValue f → passed_limit c m ≡ Some f → HasFault spell goes_on f c before (m ∷ more) (m.token ∷ mid)
   value_at Syntax c before m more mid v e = absurd v

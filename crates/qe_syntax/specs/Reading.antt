@@ -21,7 +21,7 @@ use Rattle.qe_syntax.specs.Code.{term_of, tree_of}
 use Rattle.qe_syntax.specs.Grammar.{Occurrence, tokens_of, with_end}
 use Rattle.qe_syntax.specs.Faults.{Tok, passed_limit, counted}
 
--- no mark has a fault
+-- no occurrence has a fault
 abbrev pub IsClean : ℕ → List Occurrence → Type 0
 IsClean begun [] = Unit {0}
 IsClean begun (m ∷ ms) = (passed_limit begun m ≡ None) × IsClean (counted begun (m ∷ [])) ms
@@ -42,7 +42,7 @@ module _ {A : Type 0} (spell : A → List Occurrence → List Occurrence) (goes_
     pub count : counted begun (spell found []) ≡ begun'
     pub stops : Stops goes_on new
 
-  -- No derivation goes on from these marks with the first of these tokens.
+  -- No derivation goes on from these occurrences with the first of these tokens.
   abbrev pub IsRefused : List Occurrence → List Tok → Type 0
   IsRefused before [] = ⊥
   IsRefused before (t ∷ ts) = (a : A) (rest : List Occurrence) (more : List Tok) → Stops goes_on (tokens_of rest) → tokens_of (spell a rest) ≡ tokens_of before ++ t ∷ more → ⊥

@@ -22,6 +22,7 @@ pub struct Parser<'a> {
     pub begun: u32,
 }
 
+/// What binds names.
 #[derive(Clone, Copy)]
 pub enum Quantifier {
     Ex,
