@@ -19,6 +19,8 @@ pub fn runs<F>()
 /// is not stopped, or stopped by truth, has the verdict of the tree; a stop by the limit comes only where the tree has more
 /// distinct pieces; a done run over such a tree without a true piece ends with limit or memory.
 pub fn runs_in_a_tree<F>()
-    ensures { (meaning : Key → Meaning F) (is_leaf truth : Key → Bool) (height : Key → ℕ) (limit : ℕ)
-        → Falls meaning is_leaf truth height → 1 ≤ limit → TreeLaws meaning is_leaf truth height limit }
+    ensures { (meaning : Key → Meaning F) (is_leaf truth : Key → Bool) (height : Key → ℕ)
+        (limit : ℕ)
+        → Falls meaning is_leaf truth height → 1 ≤ limit
+        → TreeLaws meaning is_leaf truth height limit }
 {}

@@ -49,7 +49,8 @@ pub fn normal(alloc: Global, input: Input) -> Result<Prenex, NormStop>
     requires few { length input.names < 2 ^ 31 }
     ensures exact { Answers (tree input.form) input.names result }
     ensures keeps { IfOk result (λ p. Preserves (tree input.form) (stands_for p)) }
-    ensures same { IfOk result (λ p. HasDecidedCore (tree input.form) → Same (tree input.form) (stands_for p)) }
+    ensures same { IfOk result (λ p. HasDecidedCore (tree input.form)
+        → Same (tree input.form) (stands_for p)) }
     ensures holds { IfOk result (λ p. HoldAlike (tree input.form) (stands_for p)) }
     ensures well_numbered { IfOk result (λ p. IsWellNumbered p) }
     ensures plain { IfOk result (λ p. IsPlain (tree p.matrix)) }

@@ -214,7 +214,8 @@ fn open_body(
     polarity: Polarity,
 ) -> Result<Form, OutOfMemory>
     ensures state { let s = in_body quantifier.kind quantifier.var.0 walk.old in
-        OnOk result (walk.new ≡ past_body (length walk.old.renamings) (opened polarity (tree body.now) s).1) }
+        OnOk result (walk.new ≡ past_body (length walk.old.renamings)
+        (opened polarity (tree body.now) s).1) }
     ensures matrix { let s = in_body quantifier.kind quantifier.var.0 walk.old in
         IfOk result (λ f. tree f ≡ (opened polarity (tree body.now) s).0) }
 {
@@ -234,7 +235,8 @@ fn open_all(
     polarity: Polarity,
 ) -> Result<Forms, OutOfMemory>
     ensures state { OnOk result (walk.new ≡ (opened_each polarity (trees forms.now) walk.old).1) }
-    ensures matrix { IfOk result (λ fs. trees fs ≡ (opened_each polarity (trees forms.now) walk.old).0) }
+    ensures matrix { IfOk result (λ fs. trees fs
+        ≡ (opened_each polarity (trees forms.now) walk.old).0) }
 {
     let mut matrices = Sequence::new(alloc);
     for form in forms.items() {

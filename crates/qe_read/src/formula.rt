@@ -33,7 +33,8 @@ impl Context<'_, '_> {
         ensures { let var = variable self.now.text.now self.now.free.now enclosing.now in
             let left = value_of var (term_of comparison.now.left) in
             let right = value_of var (term_of comparison.now.right) in
-            IsValueBy tree (atom_value comparison.now.place comparison.now.relation left right) result }
+            IsValueBy tree
+            (atom_value comparison.now.place comparison.now.relation left right) result }
     {
         let left = self.value(enclosing, &comparison.left)?;
         let right = self.value(enclosing, &comparison.right)?;
@@ -111,7 +112,8 @@ impl Context<'_, '_> {
         requires { HasRoom self.now scope.old (binder.name ∷ bound_names (tree_of body.now)) }
         ensures { let enclosing = scope.old.enclosing.items ++ binder ∷ [] in
             let bound = scope.old.bound.items ++ binder.name ∷ [] in
-            let value = formula_value self.now.text.now self.now.free.now enclosing bound (tree_of body.now) in
+            let value = formula_value self.now.text.now self.now.free.now enclosing bound
+            (tree_of body.now) in
             let names = binder.name ∷ bound_names (tree_of body.now) in
             Yields (λ form. tree form.value) value names result scope.old scope.new }
     {
@@ -125,7 +127,8 @@ impl Context<'_, '_> {
     /// The formulas of trees in order.
     #[cycle(formula)]
     fn formulas(&self, scope: &mut Scope, formulas: &[Formula]) -> Result<Forms, ValueStop>
-        requires { HasRoom self.now scope.old (names_bound_in (as_parts (map tree_of formulas.now))) }
+        requires { HasRoom self.now scope.old
+            (names_bound_in (as_parts (map tree_of formulas.now))) }
         ensures { let parts = as_parts (map tree_of formulas.now) in
             let value = formulas_within self.now scope.old parts in
             Yields trees value (names_bound_in parts) result scope.old scope.new }

@@ -56,7 +56,8 @@ fn push_addends(
     around: &[Name],
     addends: &[Addend],
 ) -> Result<(), OutOfMemory>
-    ensures { let free = free_in_addends text.now around.now (addends_of (map addend_of addends.now)) in
+    ensures { let free = free_in_addends text.now around.now
+        (addends_of (map addend_of addends.now)) in
         OnOk result (names.new.items ≡ names.old.items ++ free) }
 {
     for addend in addends {
@@ -72,7 +73,8 @@ fn push_factors(
     around: &[Name],
     factors: &[Factor],
 ) -> Result<(), OutOfMemory>
-    ensures { let free = free_in_factors text.now around.now (factors_of (map factor_of factors.now)) in
+    ensures { let free = free_in_factors text.now around.now
+        (factors_of (map factor_of factors.now)) in
         OnOk result (names.new.items ≡ names.old.items ++ free) }
 {
     for factor in factors {

@@ -59,7 +59,8 @@ fn read_tree(alloc: Global, bytes: &[u8], formula: &Formula) -> Result<Input, Re
         length free + length (bound_names (tree_of formula.now)) < 2 ^ 32 }
     requires free { let free = free_names bytes.now [] (tree_of formula.now) in
         All (λ x. IsUtf8 (letters_of bytes.now x)) free }
-    requires bound { All (λ x. IsUtf8 (letters_of bytes.now x)) (bound_names (tree_of formula.now)) }
+    requires bound { All (λ x. IsUtf8 (letters_of bytes.now x))
+        (bound_names (tree_of formula.now)) }
     ensures answers { AnswersTree bytes.now (tree_of formula.now) result }
     ensures few { let free = free_names bytes.now [] (tree_of formula.now) in
         let most = length free + length (bound_names (tree_of formula.now)) in
@@ -88,7 +89,8 @@ pub fn read(alloc: Global, bytes: &[u8]) -> Result<Input, ReadFault>
     ensures answers { Answers bytes.now result }
     ensures well_numbered { IfOk result (λ input. IsWellNumbered (tree input.form) input.names) }
     ensures few { IfOk result (λ input. length input.names < 2 ^ 31) }
-    ensures only { (f : FormTree) (names : List Letters) → IsInput bytes.now f names → IsReadAs f names result }
+    ensures only { (f : FormTree) (names : List Letters) → IsInput bytes.now f names
+        → IsReadAs f names result }
 {
     let tokens = tokens(alloc, bytes)?;
     let formula = parse(alloc, &tokens, bytes.len() as u32)?;

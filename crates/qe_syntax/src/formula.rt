@@ -218,7 +218,8 @@ impl<'a> Parser<'a> {
     #[cycle(formula)]
     fn scope(&mut self, alloc: Global, depth: u32, quantifier: Quantifier) -> Result<Formula, Stop>
         requires { depth ≤ 256 }
-        ensures { ReadsFormula (scope depth) on_simple (scope_tree quantifier) result self.old self.new }
+        ensures { ReadsFormula (scope depth) on_simple
+            (scope_tree quantifier) result self.old self.new }
     {
         let Some(name) = self.cursor.name() else {
             self.cursor.expect(Token::Dot)?;

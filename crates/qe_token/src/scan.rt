@@ -202,7 +202,8 @@ fn split(alloc: Global, bytes: &[u8]) -> Result<Vec<Located>, OutOfMemory>
 pub fn tokens(alloc: Global, bytes: &[u8]) -> Result<Vec<Located>, OutOfMemory>
     requires { length bytes.now < 2 ^ 32 }
     ensures are { IfOk result (λ ts. AreTokens 0 bytes.now ts.items) }
-    ensures only { IfOk result (λ ts. (us : List Located) → AreTokens 0 bytes.now us → us ≡ ts.items) }
+    ensures only { IfOk result (λ ts. (us : List Located) → AreTokens 0 bytes.now us
+        → us ≡ ts.items) }
     ensures names_within { IfOk result (λ ts. All (λ t. NameIsIn bytes.now t.token) ts.items) }
 {
     split(alloc, bytes)

@@ -1,9 +1,8 @@
 -- What holds of the trees of every sound expansion.
-use Rattle.std.specs.Prelude.{ℕ, ◌≡◌, ◌↔◌, true, List, map, IsTrue}
+use Rattle.std.specs.Prelude.{ℕ, ◌≡◌, ◌↔◌, true, List, map}
 use Rattle.qe_tower.specs.Point.{Point, IsPoint}
 use Rattle.qe_form.specs.Formula.{Formula, Or}
 use Rattle.qe_form.specs.Tree.{trees_of}
-use Rattle.qe_form.specs.Measures.{occurs, Has}
 use Rattle.qe_form.specs.Blocks.{Block, under_blocks}
 use Rattle.qe_form.specs.Truth.{Is}
 use Rattle.qe_form.specs.Same.{Same}
@@ -12,10 +11,6 @@ use Rattle.qe_tree.specs.Expanded.{Expansion, successors}
 use Rattle.qe_tree.specs.Tree.{form, inner}
 use Rattle.qe_tree.specs.Sound.{IsFine, forms_of}
 use Rattle.qe_tree.specs.Block.{given, eliminated}
-
--- the test of what occurs is right
-abbrev pub OccursIsHas : Type 0
-OccursIsHas = (x : ℕ) (f : Formula) → IsTrue (occurs x f) ↔ Has x f
 
 module _ {F : Type 0} (Good : Formula → Type 0) (expand : Expansion F) where
   -- a node is true for some values of its variables exactly where some successor is true for some

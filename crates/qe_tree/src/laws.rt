@@ -4,7 +4,7 @@
 ghost use Rattle.qe_form.specs.Formula.{Formula};
 ghost use Rattle.qe_tree.specs.Expanded.{Expansion};
 ghost use Rattle.qe_tree.specs.Sound.{IsSound};
-ghost use Rattle.qe_tree.specs.Laws.{OccursIsHas, GrowthKeepsTruth, InnerIsSame, EliminatedIsSame};
+ghost use Rattle.qe_tree.specs.Laws.{GrowthKeepsTruth, InnerIsSame, EliminatedIsSame};
 
 /// A sound expansion of the nodes of a block: why a node may fail, the formulas that come up, and
 /// what becomes of a node. Where there is one, an `impl` for a type without values names it, and
@@ -18,11 +18,6 @@ pub trait Grows {
 
     ghost sound: { IsSound good expand };
 }
-
-/// The test whether a variable occurs tells whether the formula has it.
-pub fn occurs_is_has()
-    ensures { OccursIsHas }
-{}
 
 /// A node is true for some values of its variables exactly where some successor is true for some
 /// values of its own.
