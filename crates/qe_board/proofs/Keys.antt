@@ -1,5 +1,5 @@
 -- Keys in lists: whether one is among them, new ones, and how many different ones there are.
-use Rattle.std.proofs.Common.{ℕ, zero, suc, ◌+◌, ◌≤◌, ◌<◌, ◌≡◌, ◌≢◌, ◌∙◌, ◌⊎◌, inl, inr, ◌↔◌, refl, sym, ap, subst, Bool, true, false, cond, ◌||◌, List, [], ◌∷◌, ◌++◌, length, map, Some, slice_get, arith}
+use Rattle.std.proofs.Common.{ℕ, zero, suc, ◌≤◌, ◌≡◌, ◌∙◌, ◌⊎◌, inl, inr, ◌↔◌, refl, sym, ap, subst, true, false, cond, List, [], ◌∷◌, ◌++◌, length, Some, slice_get, arith}
 use Rattle.std.specs.Prelude.{IsTrue}
 use lib.Pointwise.{bytes_decides}
 use Rattle.qe_ring.proofs.Bools.{either_tells, never_tells}

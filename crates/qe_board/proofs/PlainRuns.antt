@@ -1,5 +1,5 @@
 -- There is only one plain run.
-use Rattle.std.proofs.Common.{ℕ, zero, suc, ◌+◌, ◌≤◌, ◌≡◌, ◌∙◌, refl, sym, ap, subst, Bool, true, false, cond, not, ◌&&◌, List, [], ◌∷◌, ◌++◌, length, map, Option, Some, None, arith}
+use Rattle.std.proofs.Common.{ℕ, zero, suc, ◌+◌, ◌≤◌, ◌≡◌, ◌∙◌, refl, sym, ap, subst, Bool, true, false, cond, not, ◌&&◌, List, [], ◌∷◌, ◌++◌, map, Option, Some, None, arith}
 use Rattle.qe_ring.proofs.Bools.{both_hold}
 use Rattle.qe_piece.specs.Meaning.{Meaning, Child, gives, fails}
 use Rattle.qe_board.specs.declared.event.Event.{Event}

@@ -1,14 +1,14 @@
 -- The laws of runs.
-use Rattle.std.proofs.Common.{ℕ, zero, suc, ◌+◌, ◌*◌, ◌≤◌, ◌≡◌, ◌∙◌, refl, sym, ap, subst, Bool, true, false, cond, eqb, not, ◌&&◌, List, [], ◌∷◌, ◌++◌, length, map, Option, Some, None, arith}
+use Rattle.std.proofs.Common.{ℕ, suc, ◌+◌, ◌*◌, ◌≤◌, ◌≡◌, ◌∙◌, refl, sym, ap, subst, Bool, true, false, cond, eqb, not, ◌&&◌, List, [], ◌∷◌, ◌++◌, length, map, Option, Some, None, arith}
 use Rattle.std.proofs.lemmas.Bool.{eqb-true}
 use Rattle.qe_ring.proofs.Bools.{both_hold}
-use Rattle.qe_piece.specs.Meaning.{Meaning, Child, gives, fails}
+use Rattle.qe_piece.specs.Meaning.{Meaning, gives, fails}
 use Rattle.qe_board.specs.declared.event.Event.{Event}
 use Rattle.qe_board.specs.declared.event.Event.TheVariants.{Take, Give, Fail, Drop, Cancel, Fill, Starve}
 use Rattle.qe_board.specs.declared.event.Stopping.{Stopping}
 use Rattle.qe_board.specs.declared.event.Stopping.TheVariants.{Unset, Truth, Limit, Memory}
-use Rattle.qe_board.specs.State.{Key, Link, Condition, waiting, held, expanded, leaf, failed, dropped, Entry, State, is_waiting, is_held, is_held_by, is_unset, keys, at, count, is_done, has_true_leaf}
-use Rattle.qe_board.specs.Machine.{new_keys, put, drop_waiting, waits_first, holds, opening_entry, opened, child_keys, links, fits, meaning_at, gives_and, does_fail, is_enabled, given, failing, effect, IsRunFrom, IsRun, replay_from, replay}
+use Rattle.qe_board.specs.State.{Key, Condition, waiting, held, expanded, leaf, failed, dropped, Entry, State, is_waiting, is_held, is_held_by, is_unset, keys, count, is_done, has_true_leaf}
+use Rattle.qe_board.specs.Machine.{new_keys, put, drop_waiting, waits_first, holds, opening_entry, opened, child_keys, links, fits, meaning_at, gives_and, does_fail, is_enabled, given, failing, effect, IsRunFrom, replay_from, replay}
 use Rattle.qe_board.specs.Laws.{TakesNone, takes, StopMeans, RunLaws}
 use Rattle.qe_board.proofs.PlainRuns.{plain_is_run, only_one}
 use Rattle.qe_board.proofs.Conditions.{count_put, first_waits, waiting_waits, waiting_not_held, held_not_waiting, held_is_held, none_wait, held_stay, count_append, length_append, count_few, Settled, settled_put, settled_itself, settled_drop, settled_more, settled_not_first, true_put, true_drop, true_more, length_put, length_drop}

@@ -1,18 +1,18 @@
 -- What a run keeps: entries are distinct pieces of the tree, and each is what its condition says.
-use Rattle.std.proofs.Common.{ℕ, zero, suc, ◌+◌, ◌*◌, ◌≤◌, ◌<◌, ◌≡◌, ◌∙◌, ◌⊎◌, inl, inr, refl, sym, ap, subst, Bool, true, false, cond, eqb, leb, not, ◌&&◌, List, [], ◌∷◌, ◌++◌, length, map, Option, Some, None, slice_get, arith}
+use Rattle.std.proofs.Common.{ℕ, zero, suc, ◌≤◌, ◌<◌, ◌≡◌, ◌∙◌, inl, inr, refl, sym, ap, subst, Bool, true, false, cond, leb, not, List, [], ◌∷◌, ◌++◌, length, map, Option, Some, None, slice_get, arith}
 use Rattle.std.proofs.lemmas.Bool.Decides.{nat_tests}
 use Rattle.qe_ring.proofs.Bools.{both_hold}
 use Rattle.qe_piece.specs.Meaning.{Meaning, Child, gives, fails}
 use Rattle.qe_board.specs.declared.event.Event.{Event}
 use Rattle.qe_board.specs.declared.event.Event.TheVariants.{Take, Give, Fail, Drop, Cancel, Fill, Starve}
 use Rattle.qe_board.specs.declared.event.Stopping.{Stopping}
-use Rattle.qe_board.specs.declared.event.Stopping.TheVariants.{Unset, Truth, Limit, Memory}
+use Rattle.qe_board.specs.declared.event.Stopping.TheVariants.{Truth, Limit, Memory}
 use Rattle.qe_board.specs.State.{Key, IsAmong, Distinct, Link, Condition, waiting, held, expanded, leaf, failed, dropped, Entry, State, is_waiting, is_held_by, is_unset, keys, at, has_true_leaf}
-use Rattle.qe_board.specs.Machine.{new_keys, put, drop_waiting, waits_first, holds, opening_entry, opened, child_keys, grown_keys, links, fits, meaning_at, gives_and, does_fail, is_enabled, given, failing, effect, IsRunFrom, replay_from}
+use Rattle.qe_board.specs.Machine.{new_keys, put, drop_waiting, waits_first, holds, opening_entry, opened, links, fits, meaning_at, gives_and, does_fail, is_enabled, given, failing, effect, IsRunFrom, replay_from}
 use Rattle.qe_board.specs.Tree.{Spot, spots, nodes, Falls}
 use Rattle.qe_board.specs.Kept.{AreLinks, IsFit, AreFit}
-use Rattle.qe_board.proofs.Keys.{Within, in_left, in_right, in_append, all_known, new_from, new_distinct, no_more_than, number_stands, stands_still}
-use Rattle.qe_board.proofs.Walks.{spot_keys, Closed, spots_closed, root_stands, first_has}
+use Rattle.qe_board.proofs.Keys.{Within, in_left, in_append, all_known, new_from, new_distinct, no_more_than, number_stands, stands_still}
+use Rattle.qe_board.proofs.Walks.{spot_keys, spots_closed, root_stands, first_has}
 use Rattle.qe_board.proofs.Conditions.{first_waits}
 
 module _ {F : Type 0} (meaning : Key → Meaning F) (is_leaf truth : Key → Bool) (height : Key → ℕ) (limit : ℕ) where

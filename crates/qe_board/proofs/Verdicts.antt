@@ -1,15 +1,15 @@
 -- A done run that is not stopped, or stopped by truth, has the verdict of the tree.
-use Rattle.std.proofs.Common.{ℕ, zero, suc, ◌+◌, ◌≤◌, ◌<◌, ◌≡◌, ◌∙◌, ◌⊎◌, inl, inr, refl, sym, ap, subst, Bool, true, false, cond, eqb, ◌||◌, ◌&&◌, List, [], ◌∷◌, length, map, Option, Some, None, arith}
+use Rattle.std.proofs.Common.{ℕ, suc, ◌+◌, ◌≤◌, ◌<◌, ◌≡◌, ◌∙◌, ◌⊎◌, inl, inr, refl, sym, ap, subst, Bool, true, false, cond, eqb, ◌||◌, List, [], ◌∷◌, length, map, Option, Some, None, arith}
 use Rattle.std.specs.List.{list_any}
 use Rattle.std.proofs.lemmas.Bool.{eqb-true}
 use Rattle.qe_ring.proofs.Bools.{both_hold}
-use Rattle.qe_piece.specs.Meaning.{Meaning, Child, gives, fails}
+use Rattle.qe_piece.specs.Meaning.{Meaning, Child}
 use Rattle.qe_board.specs.declared.event.Event.{Event}
 use Rattle.qe_board.specs.declared.event.Stopping.{Stopping}
 use Rattle.qe_board.specs.declared.event.Stopping.TheVariants.{Unset, Truth, Limit, Memory}
-use Rattle.qe_board.specs.State.{Key, IsAmong, Distinct, Link, Condition, waiting, held, expanded, leaf, failed, dropped, Entry, State, is_waiting, is_held, is_unset, keys, count, is_done, has_true_leaf}
-use Rattle.qe_board.specs.Machine.{same_key, opened, IsRun, IsRunFrom, replay, replay_from}
-use Rattle.qe_board.specs.Tree.{Spot, Verdict, holds, fails_at, has_leaves, successors_of, below, fault_of, fault, spots, nodes, leaf_spots, first_fault, has_truth, verdict_of, verdict, Falls}
+use Rattle.qe_board.specs.State.{Key, IsAmong, Link, Condition, waiting, held, expanded, leaf, failed, dropped, Entry, State, is_waiting, is_held, is_unset, keys, count, is_done, has_true_leaf}
+use Rattle.qe_board.specs.Machine.{same_key, IsRun, replay}
+use Rattle.qe_board.specs.Tree.{Spot, Verdict, holds, fails_at, has_leaves, successors_of, below, fault_of, fault, spots, nodes, leaf_spots, first_fault, verdict, Falls}
 use Rattle.qe_board.specs.Verdict.{condition_of, fault_in, is_leaf_in, leaves_in, first_fault_in, verdict_in}
 use Rattle.qe_board.specs.Laws.{StopMeans, TreeLaws}
 use Rattle.qe_board.proofs.Keys.{Within, same_tells, no_more_than, stands_in}

@@ -1,11 +1,11 @@
 -- The pieces of a tree: what is closed under successors has them all, and they are closed under successors.
-use Rattle.std.proofs.Common.{ℕ, zero, suc, ◌+◌, ◌≤◌, ◌<◌, ◌≡◌, ◌∙◌, ◌⊎◌, inl, inr, refl, sym, ap, subst, Bool, true, false, cond, ◌||◌, List, [], ◌∷◌, ◌++◌, length, map, flat_map, slice_index_or, arith}
+use Rattle.std.proofs.Common.{ℕ, zero, suc, ◌≤◌, ◌<◌, ◌≡◌, ◌∙◌, ◌⊎◌, inl, inr, refl, sym, ap, subst, Bool, true, false, cond, ◌||◌, List, [], ◌∷◌, ◌++◌, map, flat_map, arith}
 use Rattle.std.specs.List.{All, list_any}
 use Rattle.qe_piece.specs.Meaning.{Meaning, Child, gives, fails, Descends}
 use Rattle.qe_board.specs.State.{Key, IsAmong, Distinct}
 use Rattle.qe_board.specs.Machine.{among}
 use Rattle.qe_board.specs.Tree.{Spot, first_spots, successors_of, below, walk, spots, Falls}
-use Rattle.qe_board.proofs.Keys.{Within, among_tells, in_append, in_left, in_right, distinct_end, not_among}
+use Rattle.qe_board.proofs.Keys.{Within, among_tells, in_append, in_left, in_right, not_among}
 
 abbrev pub spot_keys : List Spot → List Key
 spot_keys ps = map (λ p. p.key) ps

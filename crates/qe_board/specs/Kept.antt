@@ -2,7 +2,7 @@
 use Rattle.std.specs.Prelude.{ℕ, ◌≡◌, Bool, true, false, List, [], ◌∷◌, map, Some, slice_get}
 use Rattle.qe_piece.specs.Meaning.{Meaning, Child, gives, fails}
 use Rattle.qe_board.specs.State.{Key, IsAmong, Distinct, Link, Condition, waiting, held, expanded, leaf, failed, dropped, Entry, State, is_unset, keys}
-use Rattle.qe_board.specs.Tree.{Spot, spots}
+use Rattle.qe_board.specs.Tree.{spots}
 
 -- the links list exactly the successors, each at an entry with its key
 abbrev pub AreLinks : List Link → List Child → List Key → Type 0

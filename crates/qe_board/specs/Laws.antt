@@ -2,13 +2,13 @@
 use Rattle.std.specs.Prelude.{ℕ, ◌≡◌, ◌≤◌, ◌<◌, ◌+◌, ◌*◌, ◌⊎◌, Bool, true, false, cond, eqb, List, [], ◌∷◌, length}
 use Rattle.qe_piece.specs.Meaning.{Meaning}
 use Rattle.qe_board.specs.declared.event.Event.{Event}
-use Rattle.qe_board.specs.declared.event.Event.TheVariants.{Take, Give, Fail, Drop, Cancel, Fill, Starve}
+use Rattle.qe_board.specs.declared.event.Event.TheVariants.{Take}
 use Rattle.qe_board.specs.declared.event.Stopping.{Stopping}
 use Rattle.qe_board.specs.declared.event.Stopping.TheVariants.{Unset, Truth, Limit, Memory}
 use Rattle.qe_board.specs.State.{Key, State, is_waiting, count, is_done, has_true_leaf}
 use Rattle.qe_board.specs.Machine.{is_enabled, effect, IsRunFrom, IsRun, replay}
 use Rattle.qe_board.specs.Plain.{IsPlain}
-use Rattle.qe_board.specs.Tree.{nodes, has_truth, verdict, Falls}
+use Rattle.qe_board.specs.Tree.{nodes, has_truth, verdict}
 use Rattle.qe_board.specs.Kept.{Keeps}
 use Rattle.qe_board.specs.Verdict.{verdict_in}
 

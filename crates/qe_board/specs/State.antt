@@ -2,7 +2,7 @@
 use Rattle.std.specs.Prelude.{ℕ, zero, suc, ◌≡◌, ◌⊎◌, ◌+◌, Bool, true, false, cond, eqb, ◌&&◌, List, [], ◌∷◌, map}
 use Rattle.std.specs.List.{list_any}
 use Rattle.qe_board.specs.declared.event.Stopping.{Stopping}
-use Rattle.qe_board.specs.declared.event.Stopping.TheVariants.{Unset, Truth, Limit, Memory}
+use Rattle.qe_board.specs.declared.event.Stopping.TheVariants.{Unset}
 
 -- a list of numbers that tells a piece from others
 abbrev pub Key : Type 0

@@ -14,8 +14,6 @@ use Rattle.qe_simp.specs.Shape.{IsSimple, IsSimplified, EachAtom, IsCanonicalAto
 use Rattle.qe_simp.proofs.Kept.{simplified_keeps}
 use Rattle.qe_simp.proofs.Sizes.{simplified_size}
 use Rattle.qe_simp.proofs.Shapes.{plain_weaker, plain_atoms, plain_no_quantifier, simplified_is, simplified_is_proper, simplified_no_quantifier}
-use Rattle.qe_root.specs.declared.point.Point as code
-use Rattle.qe_root.specs.declared.point.Point.TheVariants as point
 use Rattle.qe_root.specs.Atoms.{atoms}
 use Rattle.qe_points.specs.declared.candidate.Candidate.{Candidate}
 use Rattle.qe_points.specs.declared.candidate.Candidate.TheVariants.{Root, MinusInf}

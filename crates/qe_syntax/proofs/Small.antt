@@ -1,5 +1,5 @@
 -- The numbers of a text's tree are at most 2^127 - 1.
-use Rattle.std.proofs.Common.{List, [], subst}
+use Rattle.std.proofs.Common.{List}
 use Rattle.qe_token.specs.declared.token.Located.{Located}
 use Rattle.qe_syntax.specs.Tree.{TermTree, Addends, no_addend, addend, Factors, no_factor, factor, FormulaTree, FormulaTrees, no_more, more}
 use Rattle.qe_syntax.specs.Tree as tree
