@@ -5,7 +5,7 @@ so a few may be listed too much. With --check it prints what is reached outside 
 import re
 import sys
 from glob import glob
-NEEDED = 'words token syntax read coef ring tower poly form print program'.split()
+NEEDED = 'halt words token syntax read coef ring tower poly form print program'.split()
 USE = re.compile(r'(?:^|\n)\s*(?:pub |ghost )*use (?:Rattle\.)?([\w.:]+?)(?:(?:\.|::)\{([^}]*)\}| as (\w+))?;?(?=\n|$)')
 HEAD = re.compile(r'( *)(?:abbrev )?(?:pub )?(record |data )?([^\W\d][\w-]*)(?: [({].*?[)}])? : ')
 TYPE = re.compile(r'\n(?:pub )?(?:struct|enum|impl Model for) (\w+)([ <:][^;]*?\{.*?\n\}|\(.*?;\n)', re.S)
