@@ -47,7 +47,7 @@ impl<R: Read> Source for StdSource<R> {
         ensures calm { OnOk result (self.new.faults ≡ self.old.faults) }
         ensures fault { OnErr result (self.new.faults ≡ next_count self.old.faults) }
 
-        // What the reader tells of its bytes is so of this read.
+        // What the reader tells of its bytes holds of this read.
         ensures reader { ReadConsumes (R.remaining self.old.stream) (R.remaining self.new.stream)
             result out.new }
     {
@@ -99,7 +99,7 @@ impl<W: Write> Sink for StdSink<W> {
         ensures calm { OnOk result (self.new.faults ≡ self.old.faults) }
         ensures fault { OnErr result (self.new.faults ≡ next_count self.old.faults) }
 
-        // What the writer tells of its bytes is so of this write.
+        // What the writer tells of its bytes holds of this write.
         ensures writer { WriteAppends (W.contents self.old.stream) (W.contents self.new.stream)
             result piece.now }
     {

@@ -9,10 +9,10 @@ use Rattle.qe_board.specs.declared.event.Stopping.{Stopping}
 use Rattle.qe_board.specs.declared.event.Stopping.TheVariants.{Truth, Limit, Memory}
 use Rattle.qe_board.specs.State.{Key, IsAmong, Distinct, Link, Condition, waiting, held, expanded, leaf, failed, dropped, Entry, State, is_waiting, is_held_by, is_unset, keys, at, has_true_leaf}
 use Rattle.qe_board.specs.Machine.{new_keys, put, drop_waiting, waits_first, holds, opening_entry, opened, links, fits, meaning_at, gives_and, does_fail, is_enabled, given, failing, effect, IsRunFrom, replay_from}
-use Rattle.qe_board.specs.Tree.{Spot, spots, nodes, Falls}
+use Rattle.qe_board.specs.Tree.{Position, positions, nodes, Falls}
 use Rattle.qe_board.specs.Kept.{AreLinks, IsFit, AreFit}
 use Rattle.qe_board.proofs.Keys.{Within, in_left, in_append, all_known, new_from, new_distinct, no_more_than, number_stands, stands_still}
-use Rattle.qe_board.proofs.Walks.{spot_keys, spots_closed, root_stands, first_has}
+use Rattle.qe_board.proofs.Walks.{position_keys, positions_closed, root_stands, first_has}
 use Rattle.qe_board.proofs.Conditions.{first_waits}
 
 module _ {F : Type 0} (meaning : Key → Meaning F) (is_leaf truth : Key → Bool) (height : Key → ℕ) (limit : ℕ) where
@@ -36,7 +36,7 @@ module _ {F : Type 0} (meaning : Key → Meaning F) (is_leaf truth : Key → Boo
     pub fit : AllFit (keys s) (is_unset s.stop) s.entries
     pub root_in : IsAmong root (keys s)
     pub distinct : Distinct (keys s)
-    pub within : Within (keys s) (spot_keys (spots meaning is_leaf truth height root))
+    pub within : Within (keys s) (position_keys (positions meaning is_leaf truth height root))
     pub few : length (keys s) ≤ limit
     pub beyond : s.stop ≡ Limit → limit < length (nodes meaning is_leaf truth height root)
 
@@ -162,7 +162,7 @@ module _ {F : Type 0} (meaning : Key → Meaning F) (is_leaf truth : Key → Boo
     fit = subst (λ ks. AllFit ks (is_unset t) es) (sym same) fit;
     root_in = subst (IsAmong root) (sym same) sound.root_in;
     distinct = subst Distinct (sym same) sound.distinct;
-    within = subst (λ ks. Within ks (spot_keys (spots meaning is_leaf truth height root))) (sym same) sound.within;
+    within = subst (λ ks. Within ks (position_keys (positions meaning is_leaf truth height root))) (sym same) sound.within;
     few = subst (λ ks. length ks ≤ limit) (sym same) sound.few;
     beyond = beyond;
   }
@@ -179,12 +179,12 @@ module _ {F : Type 0} (meaning : Key → Meaning F) (is_leaf truth : Key → Boo
 
   module _ (falls : Falls meaning is_leaf truth height) (root : Key) where
     abbrev tree_keys : List Key
-    tree_keys = spot_keys (spots meaning is_leaf truth height root)
+    tree_keys = position_keys (positions meaning is_leaf truth height root)
 
     -- the successors of an entry are pieces of the tree
     children_within : (s : State F) → IsSound root s → (k : Key) (cs : List Child) → IsAmong k (keys s) → is_leaf k ≡ false → meaning k ≡ gives cs → Within (keys_of cs) tree_keys
     children_within s sound k cs inside inner is x i =
-        spots_closed meaning is_leaf truth height falls root k (sound.within k inside) x
+        positions_closed meaning is_leaf truth height falls root k (sound.within k inside) x
         (subst (λ m. IsAmong x (map (λ c. c.key) (cond (is_leaf k) [] (elim m as (λ n. List Child) [ gives ds ↦ ds | fails f ↦ [] ])))) (sym is)
         (subst (λ b. IsAmong x (map (λ c. c.key) (cond b [] cs))) (sym inner) i))
 
@@ -194,14 +194,14 @@ module _ {F : Type 0} (meaning : Key → Meaning F) (is_leaf truth : Key → Boo
       | inr r ↦ within x (new_from (keys s) (keys_of cs) x r)
     ]
 
-    length_keys : (ps : List Spot) → length (spot_keys ps) ≡ length ps
+    length_keys : (ps : List Position) → length (position_keys ps) ≡ length ps
     length_keys [] = refl
     length_keys (p ∷ ps) = ap suc (length_keys ps)
 
     -- distinct pieces of the tree are no more than it has
     pub no_more_nodes : (ks : List Key) → Distinct ks → Within ks tree_keys → length ks ≤ length (nodes meaning is_leaf truth height root)
     no_more_nodes ks distinct within =
-        let most = no_more_than ks (spot_keys (nodes meaning is_leaf truth height root)) distinct (λ x i. elim (first_has [] (spots meaning is_leaf truth height root) x (within x i)) [ inl none ↦ absurd none | inr h ↦ h ]) in
+        let most = no_more_than ks (position_keys (nodes meaning is_leaf truth height root)) distinct (λ x i. elim (first_has [] (positions meaning is_leaf truth height root) x (within x i)) [ inl none ↦ absurd none | inr h ↦ h ]) in
         let long = length_keys (nodes meaning is_leaf truth height root) in omega (arith, most, long)
 
     give_left : (w n : ℕ) (s : State F) → IsSound root s → at (is_held_by w) n s.entries ≡ true → (m : Option (Meaning F)) → meaning_at meaning is_leaf truth limit n s ≡ m

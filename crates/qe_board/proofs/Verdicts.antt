@@ -9,11 +9,11 @@ use Rattle.qe_board.specs.declared.event.Stopping.{Stopping}
 use Rattle.qe_board.specs.declared.event.Stopping.TheVariants.{Unset, Truth, Limit, Memory}
 use Rattle.qe_board.specs.State.{Key, IsAmong, Link, Condition, waiting, held, expanded, leaf, failed, dropped, Entry, State, is_waiting, is_held, is_unset, keys, count, is_done, has_true_leaf}
 use Rattle.qe_board.specs.Machine.{same_key, IsRun, replay}
-use Rattle.qe_board.specs.Tree.{Spot, Verdict, holds, fails_at, has_leaves, successors_of, below, fault_of, fault, spots, nodes, leaf_spots, first_fault, verdict, Falls}
+use Rattle.qe_board.specs.Tree.{Position, Verdict, holds, fails_at, has_leaves, successors_of, below, fault_of, fault, positions, nodes, leaf_positions, first_fault, verdict, Falls}
 use Rattle.qe_board.specs.Verdict.{condition_of, fault_in, is_leaf_in, leaves_in, first_fault_in, verdict_in}
 use Rattle.qe_board.specs.Laws.{StopMeans, TreeLaws}
 use Rattle.qe_board.proofs.Keys.{Within, same_tells, no_more_than, stands_in}
-use Rattle.qe_board.proofs.Walks.{spot_keys, child_keys, Closed, walk_within, first_from, first_has, first_distinct, any_from}
+use Rattle.qe_board.proofs.Walks.{position_keys, child_keys, Closed, walk_within, first_from, first_has, first_distinct, any_from}
 use Rattle.qe_board.proofs.Runs.{run_laws}
 use Rattle.qe_board.specs.Kept.{AreLinks, IsFit, AreFit}
 use Rattle.qe_board.proofs.Sound.{IsSound, sound_run}
@@ -28,12 +28,12 @@ any_entry truth (e ∷ es) h = by_head (truth e.key) refl h (any_entry truth es)
     by_head true is some again = (e.key, (inl refl, is))
     by_head false is some again = let r = again some in (r.0, (inr r.1.0, r.1.1))
 
-any_spot : (truth : Key → Bool) (ps : List Spot) → list_any (λ p. truth p.key) ps ≡ true → (k : Key) × (IsAmong k (spot_keys ps) × (truth k ≡ true))
-any_spot truth [] h = absurd (cc)
-any_spot truth (p ∷ ps) h = by_head (truth p.key) refl h (any_spot truth ps)
+any_position : (truth : Key → Bool) (ps : List Position) → list_any (λ p. truth p.key) ps ≡ true → (k : Key) × (IsAmong k (position_keys ps) × (truth k ≡ true))
+any_position truth [] h = absurd (cc)
+any_position truth (p ∷ ps) h = by_head (truth p.key) refl h (any_position truth ps)
   where
-    by_head : (b : Bool) → truth p.key ≡ b → (b || list_any (λ q. truth q.key) ps) ≡ true → (list_any (λ q. truth q.key) ps ≡ true → (k : Key) × (IsAmong k (spot_keys ps) × (truth k ≡ true)))
-        → (k : Key) × (IsAmong k (p.key ∷ spot_keys ps) × (truth k ≡ true))
+    by_head : (b : Bool) → truth p.key ≡ b → (b || list_any (λ q. truth q.key) ps) ≡ true → (list_any (λ q. truth q.key) ps ≡ true → (k : Key) × (IsAmong k (position_keys ps) × (truth k ≡ true)))
+        → (k : Key) × (IsAmong k (p.key ∷ position_keys ps) × (truth k ≡ true))
     by_head true is some again = (p.key, (inl refl, is))
     by_head false is some again = let r = again some in (r.0, (inr r.1.0, r.1.1))
 
@@ -117,14 +117,14 @@ module _ {F : Type 0} (meaning : Key → Meaning F) (is_leaf truth : Key → Boo
     closed : ks ≡ map (λ e. e.key) es → Closed meaning is_leaf truth height ks
     closed same k h = (at_key ks es fit no_wait no_hold k (subst (IsAmong k) same h)).1.1.children
 
-    leaves_same : (ps : List Spot) → Within (spot_keys ps) (map (λ e. e.key) es) → leaves_in es ps ≡ leaf_spots meaning is_leaf truth height ps
+    leaves_same : (ps : List Position) → Within (position_keys ps) (map (λ e. e.key) es) → leaves_in es ps ≡ leaf_positions meaning is_leaf truth height ps
     leaves_same [] within = refl
     leaves_same (p ∷ ps) within =
         let a = at_key ks es fit no_wait no_hold p.key (within p.key (inl refl)) in
         let rest = leaves_same ps (λ x i. within x (inr i)) in
         (λ i. cond ((ap is_leaf_in a.1.0 ∙ sym a.1.1.leaf_is) i) (p ∷ rest i) (rest i))
 
-    faults_same : (ps : List Spot) → Within (spot_keys ps) (map (λ e. e.key) es) → (x y : Verdict F) → x ≡ y → first_fault_in es ps x ≡ first_fault meaning is_leaf truth height ps y
+    faults_same : (ps : List Position) → Within (position_keys ps) (map (λ e. e.key) es) → (x y : Verdict F) → x ≡ y → first_fault_in es ps x ≡ first_fault meaning is_leaf truth height ps y
     faults_same [] within x y same = same
     faults_same (p ∷ ps) within x y same =
         let a = at_key ks es fit no_wait no_hold p.key (within p.key (inl refl)) in
@@ -137,7 +137,7 @@ module _ {F : Type 0} (meaning : Key → Meaning F) (is_leaf truth : Key → Boo
     abbrev s : State F
     s = replay meaning is_leaf truth limit root events
 
-    abbrev tree : List Spot
+    abbrev tree : List Position
     tree = nodes meaning is_leaf truth height root
 
     sound : IsSound meaning is_leaf truth height limit root s
@@ -150,7 +150,7 @@ module _ {F : Type 0} (meaning : Key → Meaning F) (is_leaf truth : Key → Boo
     true_in_tree : has_true_leaf truth s ≡ true → list_any (λ p. truth p.key) tree ≡ true
     true_in_tree h =
         let k = any_entry truth s.entries h in
-        any_from truth k.0 tree (elim (first_has [] (spots meaning is_leaf truth height root) k.0 (sound.within k.0 k.1.0)) [ inl none ↦ absurd none | inr i ↦ i ]) k.1.1
+        any_from truth k.0 tree (elim (first_has [] (positions meaning is_leaf truth height root) k.0 (sound.within k.0 k.1.0)) [ inl none ↦ absurd none | inr i ↦ i ]) k.1.1
 
     done_parts : is_done s ≡ true → (count is_waiting s.entries ≡ 0) × (count is_held s.entries ≡ 0)
     done_parts h = let parts = both_hold (eqb (count is_waiting s.entries) 0) (eqb (count is_held s.entries) 0) h in (eqb-true (count is_waiting s.entries) 0 parts.0, eqb-true (count is_held s.entries) 0 parts.1)
@@ -159,17 +159,17 @@ module _ {F : Type 0} (meaning : Key → Meaning F) (is_leaf truth : Key → Boo
     fit_unset unset = subst (λ t. Fit (keys s) (is_unset t) s.entries) unset sound.fit
 
     -- where nothing is left to do all pieces of the tree are entries
-    all_entries : is_done s ≡ true → s.stop ≡ Unset → Within (spot_keys tree) (keys s)
+    all_entries : is_done s ≡ true → s.stop ≡ Unset → Within (position_keys tree) (keys s)
     all_entries done unset k h =
         let parts = done_parts done in
         walk_within meaning is_leaf truth height (keys s) (closed (keys s) s.entries (fit_unset unset) parts.0 parts.1 refl) (height root) [] root sound.root_in k
-        (first_from [] (spots meaning is_leaf truth height root) k h)
+        (first_from [] (positions meaning is_leaf truth height root) k h)
 
     no_truth : has_true_leaf truth s ≡ false → is_done s ≡ true → s.stop ≡ Unset → list_any (λ p. truth p.key) tree ≡ false
     no_truth none done unset = by_test (list_any (λ p. truth p.key) tree) refl
       where
         by_test : (b : Bool) → list_any (λ p. truth p.key) tree ≡ b → b ≡ false
-        by_test true h = absurd (let k = any_spot truth tree h in let yes = entry_from truth k.0 s.entries (all_entries done unset k.0 k.1.0) k.1.1 in cc)
+        by_test true h = absurd (let k = any_position truth tree h in let yes = entry_from truth k.0 s.entries (all_entries done unset k.0 k.1.0) k.1.1 in cc)
         by_test false h = refl
 
     unset_where : (t : Stopping) → StopMeans t (count is_waiting s.entries) (has_true_leaf truth s) → has_true_leaf truth s ≡ false → (t ≡ Unset) ⊎ (t ≡ Truth) → t ≡ Unset
@@ -182,20 +182,20 @@ module _ {F : Type 0} (meaning : Key → Meaning F) (is_leaf truth : Key → Boo
         by_truth : (b : Bool) → has_true_leaf truth s ≡ b → verdict_in meaning is_leaf truth height root s ≡ verdict meaning is_leaf truth height root
         by_truth true h =
             ap (λ b. cond b holds (first_fault_in s.entries tree (has_leaves (leaves_in s.entries tree)))) h
-            ∙ sym (ap (λ b. cond b holds (first_fault meaning is_leaf truth height tree (has_leaves (leaf_spots meaning is_leaf truth height tree)))) (true_in_tree h))
+            ∙ sym (ap (λ b. cond b holds (first_fault meaning is_leaf truth height tree (has_leaves (leaf_positions meaning is_leaf truth height tree)))) (true_in_tree h))
         by_truth false h =
             let unset = unset_where s.stop means h ended in let parts = done_parts done in let within = all_entries done unset in
             ap (λ b. cond b holds (first_fault_in s.entries tree (has_leaves (leaves_in s.entries tree)))) h
             ∙ (faults_same (keys s) s.entries (fit_unset unset) parts.0 parts.1 tree within _ _ (ap has_leaves (leaves_same (keys s) s.entries (fit_unset unset) parts.0 parts.1 tree within))
-            ∙ sym (ap (λ b. cond b holds (first_fault meaning is_leaf truth height tree (has_leaves (leaf_spots meaning is_leaf truth height tree)))) (no_truth h done unset)))
+            ∙ sym (ap (λ b. cond b holds (first_fault meaning is_leaf truth height tree (has_leaves (leaf_positions meaning is_leaf truth height tree)))) (no_truth h done unset)))
 
     length_keys : (es : List (Entry F)) → length (map (λ e. e.key) es) ≡ length es
     length_keys [] = refl
     length_keys (e ∷ es) = ap suc (length_keys es)
 
-    length_spots : (ps : List Spot) → length (spot_keys ps) ≡ length ps
-    length_spots [] = refl
-    length_spots (p ∷ ps) = ap suc (length_spots ps)
+    length_positions : (ps : List Position) → length (position_keys ps) ≡ length ps
+    length_positions [] = refl
+    length_positions (p ∷ ps) = ap suc (length_positions ps)
 
     few_entries : length s.entries ≤ limit
     few_entries = let few = sound.few in let same = length_keys s.entries in omega (arith, few, same)
@@ -205,8 +205,8 @@ module _ {F : Type 0} (meaning : Key → Meaning F) (is_leaf truth : Key → Boo
       where
         by_stop : (t : Stopping) → s.stop ≡ t → StopMeans t (count is_waiting s.entries) (has_true_leaf truth s) → (t ≡ Limit) ⊎ (t ≡ Memory)
         by_stop Unset is m =
-            let most = no_more_than (spot_keys tree) (keys s) (first_distinct [] (spots meaning is_leaf truth height root)) (all_entries done is) in
-            let few = few_entries in let long = length_keys s.entries in let longer = length_spots tree in absurd (omega (arith, more, most, few, long, longer))
+            let most = no_more_than (position_keys tree) (keys s) (first_distinct [] (positions meaning is_leaf truth height root)) (all_entries done is) in
+            let few = few_entries in let long = length_keys s.entries in let longer = length_positions tree in absurd (omega (arith, more, most, few, long, longer))
         by_stop Truth is m = absurd (let yes = true_in_tree m.1 in cc)
         by_stop Limit is m = inl refl
         by_stop Memory is m = inr refl

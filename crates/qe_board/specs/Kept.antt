@@ -2,7 +2,7 @@
 use Rattle.std.specs.Prelude.{ℕ, ◌≡◌, Bool, true, false, List, [], ◌∷◌, map, Some, slice_get}
 use Rattle.qe_piece.specs.Meaning.{Meaning, Child, gives, fails}
 use Rattle.qe_board.specs.State.{Key, IsAmong, Distinct, Link, Condition, waiting, held, expanded, leaf, failed, dropped, Entry, State, is_unset, keys}
-use Rattle.qe_board.specs.Tree.{spots}
+use Rattle.qe_board.specs.Tree.{positions}
 
 -- the links list exactly the successors, each at an entry with its key
 abbrev pub AreLinks : List Link → List Child → List Key → Type 0
@@ -26,7 +26,7 @@ module _ {F : Type 0} (meaning : Key → Meaning F) (is_leaf truth : Key → Boo
 
   -- the piece stands in the tree of the root
   abbrev pub StandsBelow : Key → Key → Type 0
-  StandsBelow root k = IsAmong k (map (λ p. p.key) (spots meaning is_leaf truth height root))
+  StandsBelow root k = IsAmong k (map (λ p. p.key) (positions meaning is_leaf truth height root))
 
   pub record Keeps (root : Key) (s : State F) : Type 0 where
     pub fit : AreFit (keys s) (is_unset s.stop) s.entries

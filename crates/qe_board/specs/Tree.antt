@@ -6,20 +6,20 @@ use Rattle.qe_board.specs.State.{Key}
 use Rattle.qe_board.specs.Machine.{among}
 
 -- a place: the numbers of the points on the way from the root, and the piece that stands there
-pub record Spot : Type 0 where
+pub record Position : Type 0 where
   pub path : List ℕ
   pub key : Key
 
 -- the first place of each piece that is not met before
-abbrev pub first_spots : List Key → List Spot → List Spot
-first_spots met [] = []
-first_spots met (p ∷ ps) = cond (among p.key met) (first_spots met ps) (p ∷ first_spots (met ++ p.key ∷ []) ps)
+abbrev pub first_positions : List Key → List Position → List Position
+first_positions met [] = []
+first_positions met (p ∷ ps) = cond (among p.key met) (first_positions met ps) (p ∷ first_positions (met ++ p.key ∷ []) ps)
 
 -- what a tree comes to: a leaf is true; or the first piece that fails, and why; or the places of the leaves
 pub data Verdict (F : Type 0) : Type 0 where
   holds : Verdict F
   fails_at : List ℕ → F → Verdict F
-  has_leaves : List Spot → Verdict F
+  has_leaves : List Position → Verdict F
 
 module _ {F : Type 0} (meaning : Key → Meaning F) (is_leaf truth : Key → Bool) (height : Key → ℕ) where
   abbrev pub successors_of : Meaning F → List Child
@@ -39,32 +39,32 @@ module _ {F : Type 0} (meaning : Key → Meaning F) (is_leaf truth : Key → Boo
   fault k = cond (is_leaf k) None (fault_of (meaning k))
 
   -- the places of the tree from a piece on, depth first, down to so many steps
-  abbrev pub walk : ℕ → List ℕ → Key → List Spot
+  abbrev pub walk : ℕ → List ℕ → Key → List Position
   walk zero path k = record { path = path; key = k } ∷ []
   walk (suc n) path k = record { path = path; key = k } ∷ flat_map (λ c. walk n (path ++ c.point ∷ []) c.key) (below k)
 
   -- the places of the whole tree: each step lowers the height, so there are no more steps than the root's
-  abbrev pub spots : Key → List Spot
-  spots root = walk (height root) [] root
+  abbrev pub positions : Key → List Position
+  positions root = walk (height root) [] root
 
   -- the distinct pieces, each at its first place
-  abbrev pub nodes : Key → List Spot
-  nodes root = first_spots [] (spots root)
+  abbrev pub nodes : Key → List Position
+  nodes root = first_positions [] (positions root)
 
-  abbrev pub leaf_spots : List Spot → List Spot
-  leaf_spots [] = []
-  leaf_spots (p ∷ ps) = cond (is_leaf p.key) (p ∷ leaf_spots ps) (leaf_spots ps)
+  abbrev pub leaf_positions : List Position → List Position
+  leaf_positions [] = []
+  leaf_positions (p ∷ ps) = cond (is_leaf p.key) (p ∷ leaf_positions ps) (leaf_positions ps)
 
-  abbrev pub first_fault : List Spot → Verdict F → Verdict F
+  abbrev pub first_fault : List Position → Verdict F → Verdict F
   first_fault [] otherwise = otherwise
   first_fault (p ∷ ps) otherwise = elim (fault p.key) [ Some f ↦ fails_at p.path f | None ↦ first_fault ps otherwise ]
 
-  abbrev pub has_truth : List Spot → Bool
+  abbrev pub has_truth : List Position → Bool
   has_truth ps = list_any (λ p. truth p.key) ps
 
   -- what the pieces at these places come to
-  abbrev pub verdict_of : List Spot → Verdict F
-  verdict_of ps = cond (has_truth ps) holds (first_fault ps (has_leaves (leaf_spots ps)))
+  abbrev pub verdict_of : List Position → Verdict F
+  verdict_of ps = cond (has_truth ps) holds (first_fault ps (has_leaves (leaf_positions ps)))
 
   abbrev pub verdict : Key → Verdict F
   verdict root = verdict_of (nodes root)

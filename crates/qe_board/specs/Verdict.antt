@@ -3,7 +3,7 @@ use Rattle.std.specs.Prelude.{ℕ, Bool, true, false, cond, List, [], ◌∷◌,
 use Rattle.qe_piece.specs.Meaning.{Meaning}
 use Rattle.qe_board.specs.State.{Key, Condition, leaf, failed, Entry, State, has_true_leaf}
 use Rattle.qe_board.specs.Machine.{same_key}
-use Rattle.qe_board.specs.Tree.{Spot, Verdict, holds, fails_at, has_leaves, nodes}
+use Rattle.qe_board.specs.Tree.{Position, Verdict, holds, fails_at, has_leaves, nodes}
 
 module _ {F : Type 0} where
   -- what has become of a piece, where it is an entry
@@ -19,11 +19,11 @@ module _ {F : Type 0} where
   is_leaf_in (Some leaf) = true
   is_leaf_in c = false
 
-  abbrev pub leaves_in : List (Entry F) → List Spot → List Spot
+  abbrev pub leaves_in : List (Entry F) → List Position → List Position
   leaves_in es [] = []
   leaves_in es (p ∷ ps) = cond (is_leaf_in (condition_of p.key es)) (p ∷ leaves_in es ps) (leaves_in es ps)
 
-  abbrev pub first_fault_in : List (Entry F) → List Spot → Verdict F → Verdict F
+  abbrev pub first_fault_in : List (Entry F) → List Position → Verdict F → Verdict F
   first_fault_in es [] otherwise = otherwise
   first_fault_in es (p ∷ ps) otherwise = elim (fault_in (condition_of p.key es)) [ Some f ↦ fails_at p.path f | None ↦ first_fault_in es ps otherwise ]
 

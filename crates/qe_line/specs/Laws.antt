@@ -59,7 +59,7 @@ module _ {C : Type 0} (o : Operations C) (s : C → Sign) where
   abbrev pub SignFarBelow : Type 0
   SignFarBelow = (a b c : C) → Eventually (LessBySign o s) below (λ u. s (quadratic o a b c u) ≡ sign_at o s below a b c)
 
-  -- whatever is asked of the signs of finitely many polynomials: it is so at some value exactly where it is so at some test point
+  -- whatever is asked of the signs of finitely many polynomials: it holds at some value exactly where it holds at some test point
   abbrev pub Complete : Type 0
   Complete = (fs : List (Polynomial C)) (test : List Sign → Bool)
       → ((x : C) × IsTrue (test (signs_of o s fs x))) ↔ ((p : Place C) × (IsTestPoint o s fs p × IsTrue (test (signs_at o s fs p))))

@@ -70,7 +70,7 @@ pub fn sign_far_below<L: Line>()
     ensures { SignFarBelow L.operations L.sign_of }
 {}
 
-/// What is asked of the signs of finitely many polynomials is so at some value exactly where it is so at a test point.
+/// What is asked of the signs of finitely many polynomials holds at some value exactly where it holds at a test point.
 pub fn complete<L: Line>()
     ensures { Complete L.operations L.sign_of }
 {}

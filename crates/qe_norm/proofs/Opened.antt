@@ -1,10 +1,10 @@
 -- The normal form is true where the formula is, and false where it is; it has the same free variables.
 use Rattle.std.proofs.Common.{◌≡◌, ◌∙◌, refl, sym, ℕ, Bool, true, false, not, ◌⊎◌, ◌↔◌, inl, inr, ◌∷◌}
-use Rattle.qe_ring.specs.Sign.{Sign, Minus, Zero, Plus}
+use Rattle.qe_form.proofs.Opposites.{complement_has, not_moved}
+use Rattle.qe_ring.specs.Sign.{Sign}
 use Rattle.qe_tower.specs.Number.{Number, IsNumber, sign_of}
 use Rattle.qe_tower.specs.Point.{Point}
 use Rattle.qe_form.specs.declared.signs.Signs.{Signs}
-use Rattle.qe_form.specs.Signs.{complement}
 use Rattle.qe_form.specs.Formula.{Formula, Formulas, True, False, Atom, And, Or, Not, Implies, Iff, Ex, All, no_more, more}
 use Rattle.qe_form.specs.Value.{value}
 use Rattle.qe_form.specs.Truth.{has_sign, Is, EachIs, SomeIs}
@@ -34,17 +34,6 @@ constant_is_not : (b : Polarity) (c : Bool) (p : Point) → Is (truth_under (fli
 constant_is_not Positive c p = ((λ e. e), (λ e. e))
 constant_is_not Negative true p = ((λ e. refl), (λ e. refl))
 constant_is_not Negative false p = ((λ e. sym e), (λ e. sym e))
-
-complement_has : (s : Signs) (t : Sign) → has_sign (complement s) t ≡ not (has_sign s t)
-complement_has s Minus = refl
-complement_has s Zero = refl
-complement_has s Plus = refl
-
-not_moved : (a b : Bool) → (not a ≡ b) ↔ (a ≡ not b)
-not_moved true true = ((λ e. sym e), (λ e. sym e))
-not_moved true false = ((λ e. refl), (λ e. refl))
-not_moved false true = ((λ e. refl), (λ e. refl))
-not_moved false false = ((λ e. sym e), (λ e. sym e))
 
 signs_are : (b : Polarity) (c : Bool) (s : Signs) (t : Sign) → (has_sign (signs_under b s) t ≡ c) ↔ (has_sign s t ≡ agreeing b c)
 signs_are Positive c s t = ((λ e. e), (λ e. e))

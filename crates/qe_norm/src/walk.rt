@@ -44,7 +44,11 @@ impl Model for Walk {
 
     ghost Value = { WalkState };
 
-    ghost view = { λ w. record { walked = record { met = w.met.items; names = w.names }; prefix = w.prefix.items; renamings = w.renamings.items } };
+    ghost view = { λ w. record {
+      walked = record { met = w.met.items; names = w.names };
+      prefix = w.prefix.items;
+      renamings = w.renamings.items;
+    } };
 }
 
 /// A copy of the polynomial with each of the renamings.

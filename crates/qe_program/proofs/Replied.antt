@@ -104,7 +104,7 @@ fault_replied limit bytes found (Err e) first only h = tt
 fault_replied limit bytes found (Ok reply) first only h =
     inr (record { why = fault found; reason = h.0; is_so = first; status_is = h.1.0; written = h.1.1 }, λ answered. no_fault answered.formula answered.names found h.0 (only answered.formula answered.names answered.is_input))
 
--- a reason that is so of the formula is so of the bytes
+-- a reason that holds of the formula holds of the bytes
 so_of_bytes : (limit : ℕ) (bytes : List ℕ) (f : Formula) (names : List Letters) (why : Refusal) → IsInput bytes f names → IsSoOf limit why f names → IsReason why × IsSo limit bytes why
 so_of_bytes limit bytes f names (fault found) is so = absurd so
 so_of_bytes limit bytes f names prenex_too_large is so = (tt, record { formula = f; names = names; is_input = is; holds = so })

@@ -36,7 +36,7 @@ IsWithin bytes = length bytes ≤ 1048576
 abbrev pub Asked : Run → (ℕ → Type 0) → Type 0
 Asked run P = (limit : ℕ) × Asks run.words limit × P limit
 
--- the line of a refusal with this status was written; where the source tells its bytes, it is so of them
+-- the line of a refusal with this status was written; where the source tells its bytes, the reason holds of them
 pub record WroteRefusal (run : Run) (answer : Status) (limit : ℕ) : Type 0 where
   pub why : Refusal
   pub reason : IsReason why
@@ -63,7 +63,7 @@ pub record WroteFront (run : Run) : Type 0 where
   pub rest : List ℕ
   pub wrote : AppendsUpTo run.taken run.taken_after text rest
 
--- where the words ask for elimination, the bytes told are few enough and stand for a formula that has an answer, and no count of faults rose, the status is Ok, or memory was wanted
+-- where the words ask for elimination, the bytes told are few enough and stand for a formula that has an answer, and no count of faults rose, the status is Ok, or out of memory
 abbrev pub Completes : Run → Status → Type 0
 Completes run answer =
     (limit : ℕ) → Asks run.words limit

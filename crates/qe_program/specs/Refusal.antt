@@ -64,14 +64,14 @@ abbrev pub IsReason : Refusal → Type 0
 IsReason (fault f) = f ≢ read.OutOfMemory
 IsReason _ = Unit {0}
 
--- it is so of a formula with names
+-- the reason holds of a formula with names
 abbrev pub IsSoOf : ℕ → Refusal → Formula → List Letters → Type 0
 IsSoOf limit (fault found) f names = ⊥
 IsSoOf limit prenex_too_large f names = IsLarge f
 IsSoOf limit (node all block path why) f names = HasFailingNode limit f names all block path why
 IsSoOf limit (too_many_nodes block most) f names = HasLargeTree limit f names block most
 
--- it is so of the bytes
+-- the reason holds of the bytes
 abbrev pub IsSo : ℕ → List ℕ → Refusal → Type 0
 IsSo limit bytes (fault found) = IsFirstFaultOf bytes found
 IsSo limit bytes prenex_too_large = Stands bytes (IsSoOf limit prenex_too_large)

@@ -57,7 +57,7 @@ pub fn run_alone<S: Source, K: Sink>(
     // Words that ask for nothing leave the source as it was.
     ensures source_kept { AsksNothing (map string_bytes words.now) → source.new ≡ source.old }
 
-    // Where the input cannot be read, or memory is wanted, the sink is as it was.
+    // Where the input cannot be read, or memory runs out, the sink is as it was.
     ensures sink_kept { (result ≡ Status.ReadFault) ⊎ (result ≡ Status.OutOfMemory) →
         sink.new ≡ sink.old }
 {

@@ -1,5 +1,5 @@
 -- The names among the tokens of bytes: the letters of each are a word that has no meaning of its own, and so text, and there are no more of them than bytes.
-use Rattle.std.proofs.Common.{ℕ, ◌+◌, ◌-◌, ◌≡◌, ◌<◌, ◌≤◌, refl, sym, ap, subst, ◌∙◌, List, [], ◌∷◌, ◌++◌, append_assoc, length, length-append, drop, Bool, true, false, leb, ◌&&◌, Some, arith}
+use Rattle.std.proofs.Common.{ℕ, ◌+◌, ◌-◌, ◌≡◌, ◌<◌, ◌≤◌, refl, sym, ap, subst, ◌∙◌, List, [], ◌∷◌, ◌++◌, append_assoc, length, length-append, drop, true, leb, Some, arith}
 use Rattle.std.specs.List.{AllByRecursion, list_all}
 use Rattle.std.specs.Str.{IsUtf8, IsAscii}
 use Rattle.std.proofs.Math.Seq.{take-append_seam, drop-append_seam}
@@ -7,6 +7,7 @@ use Rattle.std.proofs.lemmas.Bool.{le-leb}
 use Rattle.std.proofs.lemmas.Bool.Decides.{nat_tests}
 use Rattle.std.proofs.lemmas.Str.{IsUtf8-from_ascii}
 use Rattle.std.proofs.lemmas.Str.Ascii.{IsAscii-nil, IsAscii-cons}
+use Rattle.qe_ring.proofs.Bools.{both_hold}
 use Rattle.qe_token.specs.declared.token.Token.{Token}
 use Rattle.qe_token.specs.declared.token.Token.TheVariants as token
 use Rattle.qe_token.specs.declared.token.Located.{Located}
@@ -20,13 +21,9 @@ use Rattle.qe_read.proofs.Named.{name_in, named}
 name_byte_ascii : (b : ℕ) → is_name_byte b ≡ true → b < 128
 name_byte_ascii b h = grind (arith, nat_tests)
 
-both : (a b : Bool) → (a && b) ≡ true → (a ≡ true) × (b ≡ true)
-both true b h = (refl, h)
-both false b h = absurd (cc)
-
 word_ascii : (word : List ℕ) → list_all is_name_byte word ≡ true → IsAscii word
 word_ascii [] h = IsAscii-nil
-word_ascii (b ∷ bs) h = let p = both (is_name_byte b) (list_all is_name_byte bs) h in IsAscii-cons b bs (name_byte_ascii b p.0) (word_ascii bs p.1)
+word_ascii (b ∷ bs) h = let p = both_hold (is_name_byte b) (list_all is_name_byte bs) h in IsAscii-cons b bs (name_byte_ascii b p.0) (word_ascii bs p.1)
 
 word_long : (word : List ℕ) → begins is_letter word ≡ true → 1 ≤ length word
 word_long [] h = absurd (cc)

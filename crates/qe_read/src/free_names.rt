@@ -26,7 +26,8 @@ impl<'a> Model for FreeNames<'a> {
 
     ghost view = { λ f. map (λ w. w.now) f.names.items };
 
-    ghost invariant = { λ f. IsStrictlySortedBy letters_cmp (map (λ w. w.now) f.names.items) × (length f.names.items < 2 ^ 32) };
+    ghost invariant = { λ f. IsStrictlySortedBy letters_cmp (map (λ w. w.now) f.names.items)
+        × (length f.names.items < 2 ^ 32) };
 }
 
 impl<'a> FreeNames<'a> {

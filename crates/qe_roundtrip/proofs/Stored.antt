@@ -1,5 +1,5 @@
 -- Polynomials within all limits: which results stay within, and which operations meet no limit.
-use Rattle.std.proofs.Common.{ℕ, suc, ◌+◌, ◌-◌, ◌^◌, ◌≡◌, ◌<◌, ◌≤◌, refl, sym, ap, subst, ◌∙◌, Bool, true, false, ◌||◌, cond, ltb, eqb, List, [], ◌∷◌, ◌++◌, map, length, length-append, Option, Some, None, ℤ, pos, neg_ℤ, ◌+ℤ◌, unsigned_abs, arith}
+use Rattle.std.proofs.Common.{ℕ, suc, ◌+◌, ◌-◌, ◌^◌, ◌≡◌, ◌<◌, ◌≤◌, refl, sym, ap, subst, ◌∙◌, Bool, true, false, ◌||◌, cond, ltb, eqb, List, [], ◌∷◌, ◌++◌, map, length, length-append, Option, Some, None, ℤ, pos, neg_ℤ, unsigned_abs, arith}
 use Rattle.std.specs.List.{list_any}
 use Rattle.std.specs.Ordering.{eq_by_cmp, int_eq}
 use Rattle.std.specs.FinMap.Entries.{find, by_order}
@@ -8,7 +8,7 @@ use Rattle.std.proofs.lemmas.Int.{ints}
 use Rattle.std.proofs.lemmas.Bool.{le-ltb}
 use Rattle.std.proofs.lemmas.Bool.Decides.{nat_tests}
 use Rattle.std.proofs.lemmas.List.{length-map}
-use borrow.Author.Tests.{ltb-false}
+use Rattle.qe_poly.proofs.CollectedProduct.{if_none, else_none, at_most, magnitude_sum}
 use Rattle.qe_coef.specs.declared.Op.{Op}
 use Rattle.qe_coef.specs.declared.Op.TheVariants.{Add, Sub, Mul}
 use Rattle.qe_coef.specs.Exact.{exact}
@@ -32,17 +32,9 @@ use Rattle.qe_roundtrip.proofs.Legible.{IsStored}
 
 -- ---- limits that are not met
 
-if_none : (b : Bool) (met : PolyLimit) (rest : Option PolyLimit) → limit_if b met rest ≡ None → (b ≡ false) × (rest ≡ None)
-if_none true met rest none = absurd (cc)
-if_none false met rest none = (refl, none)
-
 pub none_if : (b : Bool) (met : PolyLimit) (rest : Option PolyLimit) → b ≡ false → rest ≡ None → limit_if b met rest ≡ None
 none_if true met rest h none = absurd (cc)
 none_if false met rest h none = none
-
-else_none : (a b : Option PolyLimit) → or_else a b ≡ None → (a ≡ None) × (b ≡ None)
-else_none None b none = (refl, none)
-else_none (Some met) b none = absurd (cc)
 
 first_none : {A : Type 0} (f : A → Option PolyLimit) (xs : List A) → ((x : A) → f x ≡ None) → first_limit f xs ≡ None
 first_none f [] h = refl
@@ -51,9 +43,6 @@ first_none f (x ∷ xs) h = ap (λ l. or_else l (first_limit f xs)) (h x) ∙ fi
 each_none : {A : Type 0} (f : A → Option PolyLimit) (xs : List A) → first_limit f xs ≡ None → Each (λ x. f x ≡ None) xs
 each_none f [] h = tt
 each_none f (x ∷ xs) h = let parts = else_none (f x) (first_limit f xs) h in (parts.0, each_none f xs parts.1)
-
-at_most : (a b : ℕ) → ltb a b ≡ false → b ≤ a
-at_most a b test = omega (arith, ltb-false)
 
 fits : (op : Op) (a b : ℤ) → wide op a b ≡ None → IsInRange (exact op a b)
 fits op a b h =
@@ -155,9 +144,6 @@ pub stored_difference : (p q : Polynomial) → IsStored p → IsStored q → sum
 stored_difference p q h k none = subst (λ r. IsStored r) (results-difference p q h.polynomial k.polynomial) (combined Sub p q h k none)
 
 -- ---- products
-
-magnitude_sum : (a b : ℤ) → unsigned_abs (a +ℤ b) ≤ unsigned_abs a + unsigned_abs b
-magnitude_sum a b = omega (arith, ints)
 
 small_total : (s : ℕ) (cs : List ℤ) → s ≤ 2 ^ 127 - 1 → magnitude_limit s cs ≡ None → s + unsigned_abs (total cs) ≤ 2 ^ 127 - 1
 small_total s [] h none = omega arith

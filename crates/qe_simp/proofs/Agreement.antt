@@ -1,9 +1,8 @@
 -- A formula and its simplified form are true at the same points, and false at the same.
 use Rattle.std.proofs.Common.{◌≡◌, ◌∙◌, sym, ap, refl, subst, Bool, true, false, not, cond, ◌&&◌, ◌||◌, ◌↔◌, ◌⊎◌, inl, inr, List, [], ◌∷◌, Some, None}
 use Rattle.std.specs.List.{list_any}
-use Rattle.std.specs.declared.cmp.Ordering.{Ordering}
-use Rattle.std.specs.declared.cmp.Ordering.TheVariants as ordering
 use Rattle.std.specs.Ordering.{is_eq}
+use Rattle.qe_ring.proofs.Ties.{equal_tie}
 use Rattle.qe_ring.specs.Sign.{Sign, Minus, Zero, Plus}
 use Rattle.qe_tower.specs.Number.{sign_of}
 use Rattle.qe_tower.specs.Point.{Point, IsPoint}
@@ -27,11 +26,6 @@ use Rattle.qe_simp.proofs.Parts.{Each, Any, steps, Each-steps, Any-steps, steps-
 abbrev side : Connective → Bool
 side Conjunction = true
 side Disjunction = false
-
-equal_tie : (r : Ordering) → is_eq r ≡ true → r ≡ ordering.Equal
-equal_tie ordering.Less tied = absurd (cc)
-equal_tie ordering.Equal tied = refl
-equal_tie ordering.Greater tied = absurd (cc)
 
 -- ---- joins of two truth values
 

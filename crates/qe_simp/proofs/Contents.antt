@@ -10,7 +10,8 @@ use Rattle.qe_form.specs.Order.{formula_cmp}
 use Rattle.qe_form.specs.OrderLaws.{formula_total, formula_same}
 use Rattle.qe_simp.specs.declared.connective.Connective.{Connective}
 use Rattle.qe_simp.specs.Simplified.{joined_signs, insert, in_order, as_one, one_or_two, merged_from, merged_parts}
-use Rattle.qe_simp.proofs.Keys.{key, signs_of, same_part, joined_comm, joined_assoc, joined_same, equal_tie, One, one_of, apart_of, key_up}
+use Rattle.qe_simp.proofs.Keys.{key, signs_of, same_part, joined_comm, joined_assoc, joined_same, One, one_of, apart_of, key_up}
+use Rattle.qe_ring.proofs.Ties.{equal_tie}
 use Rattle.qe_simp.proofs.Sorting.{Rising, Rising-in_order}
 
 -- ---- signs that may be missing

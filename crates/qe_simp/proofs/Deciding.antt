@@ -12,7 +12,8 @@ use Rattle.qe_form.specs.OrderLaws.{formula_total, formula_same, bits_same}
 use Rattle.qe_simp.specs.declared.connective.Connective.{Connective}
 use Rattle.qe_simp.specs.declared.connective.Connective.TheVariants.{Conjunction, Disjunction}
 use Rattle.qe_simp.specs.Simplified.{joined_signs, decides, deciding, united, decided}
-use Rattle.qe_simp.proofs.Keys.{no_signs, all_signs, key, signs_of, with_signs, rebuilt, equal_tie}
+use Rattle.qe_simp.proofs.Keys.{no_signs, all_signs, key, signs_of, with_signs, rebuilt}
+use Rattle.qe_ring.proofs.Ties.{equal_tie}
 use Rattle.qe_simp.proofs.Contents.{join, join_comm, at, content, content-append, content_first, content_apart, ordered, content-ordered, Ascending, ascending_ordered, same_ordered}
 
 -- a part with this key and these signs decides

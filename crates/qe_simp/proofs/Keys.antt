@@ -4,6 +4,7 @@ use Rattle.std.specs.declared.cmp.Ordering.{Ordering}
 use Rattle.std.specs.declared.cmp.Ordering.TheVariants.{Less, Equal, Greater}
 use Rattle.std.specs.Ordering.{is_eq, is_gt, nat_cmp, ordering_then}
 use Rattle.std.proofs.Math.Bool.{and_comm, or_comm, and_assoc, or_assoc, and_self, or_self}
+use Rattle.qe_ring.proofs.Ties.{equal_tie, then_Equal}
 use Rattle.qe_poly.specs.Equal.{poly_eq, poly_tells}
 use Rattle.qe_poly.specs.Order.{poly_cmp, poly_ties}
 use Rattle.qe_form.specs.declared.signs.Signs.{Signs}
@@ -58,16 +59,6 @@ joined_same Conjunction s = λ i. record { plus = and_self s.plus i; zero = and_
 joined_same Disjunction s = λ i. record { plus = or_self s.plus i; zero = or_self s.zero i; minus = or_self s.minus i }
 
 -- ---- two parts as one
-
-pub equal_tie : (r : Ordering) → is_eq r ≡ true → r ≡ Equal
-equal_tie Less tied = absurd (cc)
-equal_tie Equal tied = refl
-equal_tie Greater tied = absurd (cc)
-
-then_Equal : (r : Ordering) → ordering_then r Equal ≡ r
-then_Equal Less = refl
-then_Equal Equal = refl
-then_Equal Greater = refl
 
 -- h is f and g as one part
 pub record One (k : Connective) (f g h : Formula) : Type 0 where

@@ -8,6 +8,7 @@ use Rattle.std.specs.List.{sum_by}
 use Rattle.std.specs.List.Sorted.{IsPermutation, IsSorted}
 use Rattle.std.proofs.lemmas.List.Sorted.{sum_by-IsPermutation, IsPermutation-map}
 use Rattle.std.proofs.lemmas.List.Sums.{sum_by-cons}
+use Rattle.qe_ring.proofs.Ties.{equal_tie}
 use Rattle.qe_form.specs.declared.form.Form.{Form}
 use Rattle.qe_form.specs.Formula.{Formula}
 use Rattle.qe_form.specs.Tree.{tree}
@@ -84,11 +85,6 @@ Rising-in_order [] = tt
 Rising-in_order (f ∷ fs) = Rising-insert f (in_order fs) (Rising-in_order fs)
 
 -- ---- rising lists with the same formulas are equal
-
-equal_tie : (r : Ordering) → is_eq r ≡ true → r ≡ Equal
-equal_tie Less tied = absurd (cc)
-equal_tie Equal tied = refl
-equal_tie Greater tied = absurd (cc)
 
 -- the first is not after any that stands in the list
 up_to_each : (f : Formula) (fs : List Formula) → Rising (f ∷ fs) → (x : Formula) → 0 < occurs x (f ∷ fs) → IsUpTo f x

@@ -1,19 +1,13 @@
 -- What holds of places holds of the first places of their formulas, and the other way round.
 use Rattle.std.proofs.Common.{◌≡◌, sym, refl, subst, inl, inr, ◌⊎◌, Bool, true, false, cond, ◌||◌, List, [], ◌∷◌, ◌++◌}
-use Rattle.std.specs.declared.cmp.Ordering.{Ordering}
-use Rattle.std.specs.declared.cmp.Ordering.TheVariants as ordering
 use Rattle.std.specs.Ordering.{is_eq}
+use Rattle.qe_ring.proofs.Ties.{equal_tie}
 use Rattle.qe_form.specs.Formula.{Formula}
 use Rattle.qe_form.specs.Order.{formula_cmp}
 use Rattle.qe_form.specs.OrderLaws.{formula_same}
 use Rattle.qe_tree.specs.Tree.{Place, is_among, first_places}
 use Rattle.qe_tree.specs.Sound.{IsIn, Each}
 use Rattle.qe_tree.proofs.Walks.{EachForm, SomeForm}
-
-equal_tie : (r : Ordering) → is_eq r ≡ true → r ≡ ordering.Equal
-equal_tie ordering.Less tied = absurd (cc)
-equal_tie ordering.Equal tied = refl
-equal_tie ordering.Greater tied = absurd (cc)
 
 -- a formula that the test finds is one of them
 pub among_in : (f : Formula) (fs : List Formula) → is_among f fs ≡ true → IsIn f fs
