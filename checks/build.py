@@ -108,9 +108,13 @@ def make_lane(number):
 
 
 def cost_of(crate):
-    """What the proof of a crate costs, by the size of its code: loading the libraries is as dear as some 2,000 bytes of it."""
-    code = f"{TOP}/crates/{crate}/src"
-    return 2000 + sum(os.path.getsize(f"{at}/{name}") for at, _, names in os.walk(code) for name in names)
+    """What the proof of a crate costs, by the size of its code, and of its proofs at a twentieth: loading the libraries is as
+    dear as some 2,000 bytes of code."""
+    def size(part):
+        files = [f"{at}/{name}" for at, _, names in os.walk(f"{TOP}/crates/{crate}/{part}") for name in names]
+        return sum(map(os.path.getsize, files))
+
+    return 2000 + size("src") + size("proofs") // 20
 
 
 def longest(uses):
@@ -133,8 +137,10 @@ class Build:
         below = longest(uses)
         above = longest({name: [it for it, used in uses.items() if name in used] for name in uses})
         whole = {name: below[name] + above[name] - cost_of(name) for name in uses}
-        # The crates on a chain that is nearly as long as the longest: the whole waits for them.
-        self.first = {name for name in uses if whole[name] >= 0.85 * max(whole.values())}
+        # The whole waits for the crates on a chain that is nearly as long as the longest. Half as long a chain has a weight
+        # that lets it end in time, and what is on none has what is left.
+        most = max(whole.values())
+        self.nice = {name: 0 if it >= 0.85 * most else 2 if it >= 0.5 * most else 15 for name, it in whole.items()}
         self.left = sorted(uses, key=lambda it: -above[it])
         self.done, self.failed = set(), None
         self.lanes = [make_lane(number) for number in range(LANES)]
@@ -168,8 +174,7 @@ class Build:
                 self.turn.notify_all()
 
     def prove(self, lane, name):
-        words = ["rt", "lib", "--jobs", str(CORES)]
-        words = words if name in self.first else ["nice", "-n", "15", *words]
+        words = ["nice", "-n", str(self.nice[name]), "rt", "lib", "--jobs", str(CORES)]
         folder = f"{lane}/crates/{name}"
         how = {"stdin": subprocess.DEVNULL, "stdout": subprocess.PIPE, "stderr": subprocess.STDOUT}
         return subprocess.run(words, cwd=folder, text=True, errors="replace", check=False, **how)
