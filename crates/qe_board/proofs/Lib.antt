@@ -5,3 +5,4 @@ pub mod Walks
 pub mod Sound
 pub mod Verdicts
 pub mod PlainRuns
+pub mod Listed

@@ -51,19 +51,19 @@ module _ {F : Type 0} (meaning : Key → Meaning F) (is_leaf truth : Key → Boo
       let f : count is_held (put n c es) + 1 ≡ count is_held es + 0 = e ∙ ap (λ b. count is_held es + cond b 1 0) not_held in
       omega (arith, f, few)
 
-  opening_not_held : (ks : List Key) → count is_held (map (opening_entry meaning is_leaf truth limit) ks) ≡ 0
+  opening_not_held : (ks : List Key) → count {F = F} is_held (map (opening_entry is_leaf) ks) ≡ 0
   opening_not_held [] = refl
   opening_not_held (k ∷ ks) = by_test (is_leaf k) (opening_not_held ks)
     where
-      by_test : (b : Bool) → count is_held (map (opening_entry meaning is_leaf truth limit) ks) ≡ 0 → ◌≡◌ {A = ℕ} (cond (is_held {F = F} (cond b leaf waiting)) 1 0 + count is_held (map (opening_entry meaning is_leaf truth limit) ks)) 0
+      by_test : (b : Bool) → count {F = F} is_held (map (opening_entry is_leaf) ks) ≡ 0 → ◌≡◌ {A = ℕ} (cond (is_held {F = F} (cond b leaf waiting)) 1 0 + count {F = F} is_held (map (opening_entry is_leaf) ks)) 0
       by_test true rest = omega (arith, rest)
       by_test false rest = omega (arith, rest)
 
   given_few : (w n : ℕ) (m : Option (Meaning F)) (s : State F) → at (is_held_by w) n s.entries ≡ true → count is_held s.entries ≤ 1 → count is_held (given meaning is_leaf truth limit n m s).entries ≤ 1
   given_few w n (Some (gives cs)) s there few =
       let ks = new_keys (keys s) (map (λ c. c.key) cs) in
-      let less = one_less w n (expanded (links meaning is_leaf truth limit cs (keys s ++ ks))) s.entries refl there few in
-      let both = count_append is_held (put n (expanded (links meaning is_leaf truth limit cs (keys s ++ ks))) s.entries) (map (opening_entry meaning is_leaf truth limit) ks) in
+      let less = one_less w n (expanded (links cs (keys s ++ ks))) s.entries refl there few in
+      let both = count_append is_held (put n (expanded (links cs (keys s ++ ks))) s.entries) (map (opening_entry is_leaf) ks) in
       let none = opening_not_held ks in omega (arith, less, both, none)
   given_few w n (Some (fails f)) s there few = few
   given_few w n None s there few = few

@@ -27,7 +27,7 @@ module _ {F : Type 0} (meaning : Key → Meaning F) (is_leaf truth : Key → Boo
   Runs = IsRunFrom meaning is_leaf truth limit
 
   abbrev opening : Key → Entry F
-  opening = opening_entry meaning is_leaf truth limit
+  opening = opening_entry is_leaf
 
   -- ---- a leaf that is true stays one
 
@@ -157,8 +157,8 @@ module _ {F : Type 0} (meaning : Key → Meaning F) (is_leaf truth : Key → Boo
     room_given None h = absurd (cc)
     room_given (Some (fails f)) h = absurd (cc)
     room_given (Some (gives cs)) h =
-        let ks = new_keys (keys s) (child_keys meaning is_leaf truth limit cs) in
-        let c : Condition F = expanded (links meaning is_leaf truth limit cs (keys s ++ ks)) in
+        let ks = new_keys (keys s) (child_keys cs) in
+        let c : Condition F = expanded (links cs (keys s ++ ks)) in
         let waits = waiting_put c refl in let holds_less = held_put c refl in let long = length_put n c s.entries in
         let more = map opening ks in
         let waits_more = count_append is_waiting (put n c s.entries) more in let holds_more = count_append is_held (put n c s.entries) more in

@@ -58,7 +58,7 @@ module _ {F : Type 0} (meaning : Key → Meaning F) (is_leaf truth : Key → Boo
   links_more ks js more [] (c ∷ cs) h = absurd h
   links_more ks js more (l ∷ ls) [] h = absurd h
 
-  links_are : (ks : List Key) (cs : List Child) → Within (keys_of cs) ks → AreLinks (links meaning is_leaf truth limit cs ks) cs ks
+  links_are : (ks : List Key) (cs : List Child) → Within (keys_of cs) ks → AreLinks (links cs ks) cs ks
   links_are ks [] within = tt
   links_are ks (c ∷ cs) within = (refl, number_stands c.key ks (within c.key (inl refl)), links_are ks cs (λ x i. within x (inr i)))
 
@@ -116,11 +116,11 @@ module _ {F : Type 0} (meaning : Key → Meaning F) (is_leaf truth : Key → Boo
   waiting_inner ks b (failed f) k h fit = absurd (cc)
   waiting_inner ks b dropped k h fit = absurd (cc)
 
-  opening_fit : (ks js : List Key) (b : Bool) → AllFit ks b (map (opening_entry meaning is_leaf truth limit) js)
+  opening_fit : (ks js : List Key) (b : Bool) → AllFit ks b (map (opening_entry is_leaf) js)
   opening_fit ks [] b = tt
   opening_fit ks (j ∷ js) b = (elim (is_leaf j) as (λ t. is_leaf j ≡ t → Fit ks b (cond t leaf waiting) j) [ true ↦ λ e. e | false ↦ λ e. e ] refl, opening_fit ks js b)
 
-  opening_keys : (js : List Key) → entry_keys (map (opening_entry meaning is_leaf truth limit) js) ≡ js
+  opening_keys : (js : List Key) → entry_keys (map (opening_entry is_leaf) js) ≡ js
   opening_keys [] = refl
   opening_keys (j ∷ js) = ap (λ ks. j ∷ ks) (opening_keys js)
 
@@ -213,17 +213,17 @@ module _ {F : Type 0} (meaning : Key → Meaning F) (is_leaf truth : Key → Boo
         let inner = held_inner (keys s) (is_unset s.stop) w f.entry.condition f.entry.key f.passes f.fit in
         let means = some_same (meaning f.entry.key) (gives cs) (meaning_found s n f.entry (Some (gives cs)) f.there is) in
         let ks = new_keys (keys s) (keys_of cs) in
-        let c : Condition F = expanded (links meaning is_leaf truth limit cs (keys s ++ ks)) in
-        let grown : entry_keys (put n c s.entries ++ map (opening_entry meaning is_leaf truth limit) ks) ≡ keys s ++ ks =
-        append_keys (put n c s.entries) (map (opening_entry meaning is_leaf truth limit) ks) ∙ (λ i. keys_put n c s.entries i ++ opening_keys ks i) in
+        let c : Condition F = expanded (links cs (keys s ++ ks)) in
+        let grown : entry_keys (put n c s.entries ++ map (opening_entry is_leaf) ks) ≡ keys s ++ ks =
+        append_keys (put n c s.entries) (map (opening_entry is_leaf) ks) ∙ (λ i. keys_put n c s.entries i ++ opening_keys ks i) in
         let known : AllFit (keys s ++ ks) (is_unset s.stop) s.entries = all_fit_more (keys s) (keys s ++ ks) (is_unset s.stop) (λ i x at. stands_still i x (keys s) ks at) s.entries sound.fit in
-        let now : AllFit (keys s ++ ks) (is_unset s.stop) (put n c s.entries ++ map (opening_entry meaning is_leaf truth limit) ks) =
+        let now : AllFit (keys s ++ ks) (is_unset s.stop) (put n c s.entries ++ map (opening_entry is_leaf) ks) =
         fit_append (keys s ++ ks) (is_unset s.stop) (put n c s.entries) _
         (fit_put (keys s ++ ks) (is_unset s.stop) (is_held_by w) n c s.entries known there
         (λ e at passes fit. (held_inner (keys s ++ ks) (is_unset s.stop) w e.condition e.key passes fit, (cs, (some_same (meaning e.key) (gives cs) (meaning_found s n e (Some (gives cs)) at is), links_are (keys s ++ ks) cs (all_known (keys s) (keys_of cs)))))))
         (opening_fit (keys s ++ ks) ks (is_unset s.stop)) in
         record {
-          fit = subst (λ js. AllFit js (is_unset s.stop) (put n c s.entries ++ map (opening_entry meaning is_leaf truth limit) ks)) (sym grown) now;
+          fit = subst (λ js. AllFit js (is_unset s.stop) (put n c s.entries ++ map (opening_entry is_leaf) ks)) (sym grown) now;
           root_in = subst (IsAmong root) (sym grown) (in_left root (keys s) ks sound.root_in);
           distinct = subst Distinct (sym grown) (new_distinct (keys s) (keys_of cs) sound.distinct);
           within = subst (λ js. Within js tree_keys) (sym grown) (grown_within s sound cs (children_within s sound f.entry.key cs f.inside inner means));

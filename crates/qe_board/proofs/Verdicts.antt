@@ -8,12 +8,12 @@ use Rattle.qe_board.specs.declared.event.Event.{Event}
 use Rattle.qe_board.specs.declared.event.Stopping.{Stopping}
 use Rattle.qe_board.specs.declared.event.Stopping.TheVariants.{Unset, Truth, Limit, Memory}
 use Rattle.qe_board.specs.State.{Key, IsAmong, Link, Condition, waiting, held, expanded, leaf, failed, dropped, Entry, State, is_waiting, is_held, is_unset, keys, count, is_done, has_true_leaf}
-use Rattle.qe_board.specs.Machine.{same_key, IsRun, replay}
+use Rattle.qe_board.specs.Machine.{child_keys, same_key, IsRun, replay}
 use Rattle.qe_board.specs.Tree.{Position, Verdict, holds, fails_at, has_leaves, successors_of, below, fault_of, fault, positions, nodes, leaf_positions, first_fault, verdict, Falls}
 use Rattle.qe_board.specs.Verdict.{condition_of, fault_in, is_leaf_in, leaves_in, first_fault_in, verdict_in}
 use Rattle.qe_board.specs.Laws.{StopMeans, TreeLaws}
 use Rattle.qe_board.proofs.Keys.{Within, same_tells, no_more_than, stands_in}
-use Rattle.qe_board.proofs.Walks.{position_keys, child_keys, Closed, walk_within, first_from, first_has, first_distinct, any_from}
+use Rattle.qe_board.proofs.Walks.{position_keys, Closed, walk_within, first_from, first_has, first_distinct, any_from}
 use Rattle.qe_board.proofs.Runs.{run_laws}
 use Rattle.qe_board.specs.Kept.{AreLinks, IsFit, AreFit}
 use Rattle.qe_board.proofs.Sound.{IsSound, sound_run}

@@ -3,15 +3,12 @@ use Rattle.std.proofs.Common.{ℕ, zero, suc, ◌≤◌, ◌<◌, ◌≡◌, ◌
 use Rattle.std.specs.List.{All, list_any}
 use Rattle.qe_piece.specs.Meaning.{Meaning, Child, gives, fails, Descends}
 use Rattle.qe_board.specs.State.{Key, IsAmong, Distinct}
-use Rattle.qe_board.specs.Machine.{among}
+use Rattle.qe_board.specs.Machine.{child_keys, among}
 use Rattle.qe_board.specs.Tree.{Position, first_positions, successors_of, below, walk, positions, Falls}
 use Rattle.qe_board.proofs.Keys.{Within, among_tells, in_append, in_left, in_right, not_among}
 
 abbrev pub position_keys : List Position → List Key
 position_keys ps = map (λ p. p.key) ps
-
-abbrev pub child_keys : List Child → List Key
-child_keys cs = map (λ c. c.key) cs
 
 keys_append : (ps qs : List Position) → position_keys (ps ++ qs) ≡ position_keys ps ++ position_keys qs
 keys_append [] qs = refl

@@ -48,25 +48,28 @@ module _ {F : Type 0} where
   abbrev pub holds : ℕ → ℕ → State F → Bool
   holds w n s = at (is_held_by w) n s.entries
 
+-- ---- entries to come, and links to entries
+
+-- a leaf needs no successors, so that nobody takes it
+abbrev pub opening_entry : {F : Type 0} → (Key → Bool) → Key → Entry F
+opening_entry is_leaf k = record { key = k; condition = cond (is_leaf k) leaf waiting }
+
+abbrev pub child_keys : List Child → List Key
+child_keys cs = map (λ c. c.key) cs
+
+abbrev pub links : List Child → List Key → List Link
+links cs ks = map (λ c. record { point = c.point; entry = index_of c.key ks }) cs
+
 -- ---- the machine, over what is known of a piece by its key
 
 module _ {F : Type 0} (meaning : Key → Meaning F) (is_leaf truth : Key → Bool) (limit : ℕ) where
-  abbrev pub opening_entry : Key → Entry F
-  opening_entry k = record { key = k; condition = cond (is_leaf k) leaf waiting }
-
   -- the one entry is the root
   abbrev pub opened : Key → State F
-  opened root = record { entries = opening_entry root ∷ []; stop = Unset }
-
-  abbrev pub child_keys : List Child → List Key
-  child_keys cs = map (λ c. c.key) cs
+  opened root = record { entries = opening_entry is_leaf root ∷ []; stop = Unset }
 
   -- the keys with the new ones of the successors
   abbrev pub grown_keys : List Child → State F → List Key
   grown_keys cs s = keys s ++ new_keys (keys s) (child_keys cs)
-
-  abbrev pub links : List Child → List Key → List Link
-  links cs ks = map (λ c. record { point = c.point; entry = index_of c.key ks }) cs
 
   -- entries and new ones together are at most the limit
   abbrev pub fits : List Child → State F → Bool
@@ -100,7 +103,7 @@ module _ {F : Type 0} (meaning : Key → Meaning F) (is_leaf truth : Key → Boo
   abbrev pub given : ℕ → Option (Meaning F) → State F → State F
   given n (Some (gives cs)) s =
       let ks = new_keys (keys s) (child_keys cs) in
-      record { entries = put n (expanded (links cs (keys s ++ ks))) s.entries ++ map opening_entry ks; stop = s.stop }
+      record { entries = put n (expanded (links cs (keys s ++ ks))) s.entries ++ map (opening_entry is_leaf) ks; stop = s.stop }
   given n m s = s
 
   abbrev pub failing : ℕ → Option (Meaning F) → State F → State F

@@ -2,6 +2,7 @@
 //! Knows no formulas, no threads and no lock.
 #![tactic(auto)]
 
+mod entries;
 mod event;
 pub mod laws;
 
