@@ -6,3 +6,4 @@ pub mod Sound
 pub mod Verdicts
 pub mod PlainRuns
 pub mod Listed
+pub mod Counting

@@ -3,7 +3,7 @@ use Rattle.std.proofs.Common.{ℕ, zero, suc, ◌+◌, ◌<◌, ◌≡◌, ◌�
 use Rattle.std.specs.Prelude.{IsTrue, nat_lt, position, slice_get, slice_set, slice_index_or}
 use Rattle.std.specs.List.{list_any, position_or_len}
 use Rattle.std.proofs.lemmas.Bool.Decides.{nat_tests}
-use Rattle.qe_board.specs.State.{Key, Entry}
+use Rattle.qe_board.specs.State.{Key, Condition, Entry, at}
 use Rattle.qe_board.specs.Machine.{same_key, among, index_of, put}
 use Rattle.qe_board.specs.declared.entries.Progress.{Progress}
 use Rattle.qe_board.specs.Shown.{condition, conditions, entries_of, IsCopy, IsCopyAt, AreCopies, IsFound}
@@ -84,6 +84,13 @@ module _ {N F : Type 0} (key : N → Key) where
   own_condition (m ∷ ns) (q ∷ ps) (suc n) d h less = own_condition ns ps n d h.1 (omega (arith, less))
   own_condition [] (q ∷ ps) n d h less = absurd h
   own_condition (m ∷ ns) [] n d h less = absurd h
+
+  pub own_test : (p : Condition F → Bool) (ns : List N) (ps : List (Progress N F)) (n : ℕ) (d : Progress N F) → AreCopies key ns ps → n < length ps → p (condition (slice_index_or ps n d)) ≡ at p n (entries_of key ns ps)
+  own_test p [] [] n d h less = absurd (omega (arith, less))
+  own_test p (m ∷ ns) (q ∷ ps) zero d h less = refl
+  own_test p (m ∷ ns) (q ∷ ps) (suc n) d h less = own_test p ns ps n d h.1 (omega (arith, less))
+  own_test p [] (q ∷ ps) n d h less = absurd h
+  own_test p (m ∷ ns) [] n d h less = absurd h
 
 -- ---- the number of a key
 

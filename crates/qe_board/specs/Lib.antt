@@ -2,6 +2,7 @@ pub mod State
 pub mod Machine
 pub mod Tree
 pub mod Shown
+pub mod Counted
 pub mod Kept
 pub mod Verdict
 pub mod Plain

@@ -1,7 +1,8 @@
 //! The entries of the container: distinct pieces in the order of their coming, and what has become of each.
 
-ghost use Rattle.std.specs.Prelude.{◌≡◌, ◌<◌, ◌++◌, ◌∷◌, [], length, map, take, false, Some, slice_get, OnOk, OnErr};
-ghost use Rattle.qe_board.specs.Machine.{among, put};
+ghost use Rattle.std.specs.Prelude.{ℕ, ◌≡◌, ◌<◌, ◌++◌, ◌∷◌, [], length, map, take, false, Some, slice_get, OnOk, OnErr, ◌^◌};
+ghost use Rattle.qe_board.specs.State.{is_waiting, is_held, at};
+ghost use Rattle.qe_board.specs.Machine.{among, put, drop_waiting};
 ghost use Rattle.qe_board.specs.Shown.{condition, conditions, IsCopy, IsCopyAt, IsFound};
 
 use indexmap::IndexSet;
@@ -32,6 +33,22 @@ pub enum Progress<N: Piece> {
     Failed(N::Fault),
     /// It was dropped, since a stop was set.
     Dropped,
+}
+
+impl<N: Piece> Progress<N> {
+    /// Whether it waits.
+    pub fn waits(&self) -> bool
+        ensures { result ≡ is_waiting (condition self.now) }
+    {
+        matches!(self, Progress::Waiting(_))
+    }
+
+    /// Whether a worker holds it.
+    pub fn is_held(&self) -> bool
+        ensures { result ≡ is_held (condition self.now) }
+    {
+        matches!(self, Progress::Held(_))
+    }
 }
 
 /// The entries, by the hash of their pieces. Contracts see the list of keys with their conditions.
@@ -67,7 +84,8 @@ impl<N: Piece> Entries<N> {
 
     /// How many there are.
     pub fn len(&self) -> usize
-        ensures { result ≡ length self.now }
+        ensures len { result ≡ length self.now }
+        ensures few { length self.now < 2 ^ 63 }
     {
         self.progress.len()
     }
@@ -77,6 +95,14 @@ impl<N: Piece> Entries<N> {
         ensures { IsFound (map (λ e. e.key) self.now) (N.key piece.now) result }
     {
         self.pieces.get_index_of(piece)
+    }
+
+    /// Whether the entry waits.
+    pub fn waits(&self, entry: usize) -> bool
+        requires { entry < length self.now }
+        ensures { result ≡ at is_waiting entry self.now }
+    {
+        self.progress[entry].waits()
     }
 
     /// One more entry, whose piece is none so far. For want of memory nothing changes.
@@ -111,7 +137,20 @@ impl<N: Piece> Entries<N> {
         ensures changed { self.new ≡ put entry (condition progress) self.old }
         ensures was { slice_get (conditions self.old) entry ≡ Some (condition result) }
         ensures copy { IsCopyAt N.key entry self.old result }
+        ensures few { length self.old < 2 ^ 63 }
     {
         mem::replace(&mut self.progress[entry], progress)
+    }
+
+    /// Drops what waits. No entry before this one does.
+    pub fn drop_waiting(&mut self, from: usize)
+        requires { (n : ℕ) → n < from → at is_waiting n self.old ≡ false }
+        ensures { self.new ≡ drop_waiting self.old }
+    {
+        for entry in from..self.len() {
+            if self.waits(entry) {
+                drop(self.replace(entry, Progress::Dropped));
+            }
+        }
     }
 }

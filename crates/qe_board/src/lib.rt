@@ -5,5 +5,6 @@
 mod entries;
 mod event;
 pub mod laws;
+mod roll;
 
 pub use event::{Event, Stopping};

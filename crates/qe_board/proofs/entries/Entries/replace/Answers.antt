@@ -1,4 +1,4 @@
-use Rattle.std.proofs.Common.{◌≡◌, ◌∙◌, ◌<◌, ap, sym, subst, length, slice_get, slice_set, slice_index_or, Some}
+use Rattle.std.proofs.Common.{◌≡◌, ◌∙◌, ◌<◌, ◌^◌, ap, sym, subst, length, slice_get, slice_set, slice_index_or, Some, arith}
 use Rattle.qe_board.specs.Machine.{put}
 use Rattle.qe_board.specs.Shown.{condition, conditions, entries_of, AreCopies, IsCopyAt}
 use Rattle.qe_board.proofs.Listed.{length_entries, changed_entry, changed_copies, own_copy, own_condition}
@@ -43,3 +43,8 @@ returns-clause-copy g c =
     subst (λ es. IsCopyAt g.N.Piece.key c.args.entry es c.replace.result) c.self.view_is
     (subst (λ p. IsCopyAt g.N.Piece.key c.args.entry (entries_of g.N.Piece.key c.self.inside.pieces.keys c.self.inside.progress.items) p) (was g c)
     (own_copy g.N.Piece.key c.self.inside.pieces.keys c.self.inside.progress.items c.args.entry c.index_mut.result.now c.self.invariant.1 (is_within g c)))
+
+pub returns-clause-few : goal.returns-clause-few
+returns-clause-few g c =
+    let inside = c.self.inside.progress.ok in let small = c.self.inside.progress.small in
+    subst (λ n. n < 2 ^ 63) (sym (length_entries g.N.Piece.key c.self.inside.pieces.keys c.self.inside.progress.items c.self.invariant.1) ∙ ap length c.self.view_is) (omega (arith, inside, small))
