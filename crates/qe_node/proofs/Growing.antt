@@ -129,7 +129,7 @@ same_variables (v ∷ vs) = ap (λ us. v ∷ us) (same_variables vs)
 module _ (n : Sight) (f : Formula) (vs items : List Var) (o : Option Var) (view : record { vars = numbers vs; form = f } ≡ n) (lent : items ≡ vs) (is : o ≡ choice f items) where
   expansion_is : expansion_of n ≡ with_nodes (numbers items) (at_choice f o)
   expansion_is =
-      sym (ap expansion_of view) ∙ (ap (λ us. with_nodes (numbers us) (expansion (numbers us) f)) (sym lent)
+      sym (ap expansion_of view) ∙ (ap (λ us. with_nodes (numbers us) (expansion.becomes (numbers us) f)) (sym lent)
       ∙ ap (λ c. with_nodes (numbers items) (at_choice f c)) (ap (choice f) (same_variables items) ∙ sym is))
 
   -- where a variable is chosen

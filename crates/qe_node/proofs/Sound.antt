@@ -1,5 +1,5 @@
 -- The successors of a node are grown from it, and the expansion of nodes is sound.
-use Rattle.std.proofs.Common.{arith, ℕ, ◌≡◌, ◌≢◌, ◌≤◌, inl, inr, ap, refl, subst, List, [], ◌∷◌, map, Option, Some, None, Result, Ok, Err, IfSome}
+use Rattle.std.proofs.Common.{arith, ℕ, ◌≡◌, ◌≢◌, ◌≤◌, ◌<◌, inl, inr, ap, refl, subst, List, [], ◌∷◌, map, length, Option, Some, None, Result, Ok, Err, IfSome}
 use Rattle.qe_line.specs.Place as line
 use Rattle.qe_poly.specs.declared.monomial.Var.{Var}
 use Rattle.qe_poly.specs.Polynomial.{IsPolynomial}
@@ -33,6 +33,7 @@ use Rattle.qe_tree.specs.Variables.{remaining}
 use Rattle.qe_tree.specs.Expanded.{successors}
 use Rattle.qe_tree.specs.Sound as tree
 use Rattle.qe_tree.specs.Sound.{Each, IsIn, IsFine, forms_of, IsGrown}
+use Rattle.qe_tree.proofs.Occurs.{fewer_left}
 use Rattle.qe_tree.proofs.Growth.{fine_plain}
 use Rattle.qe_node.specs.declared.stop.NodeStop.{NodeStop}
 use Rattle.qe_node.specs.lemmas.Piece.{chosen_in}
@@ -181,8 +182,14 @@ at_choice_grown vars f fine proper (Some v) chosen x parts is = by_result (given
     by_result (Err s) given same = absurd (cc)
 
 -- the successors of a node are grown from it
-pub expansion_grown : (vars : List ℕ) (f : Formula) → IsFine f → IsPlainAndProper f → (x : ℕ) (parts : List (ℕ × Formula)) → expansion vars f ≡ successors x parts → IsGrown IsSimplified vars f x parts
+pub expansion_grown : (vars : List ℕ) (f : Formula) → IsFine f → IsPlainAndProper f → (x : ℕ) (parts : List (ℕ × Formula)) → expansion.becomes vars f ≡ successors x parts → IsGrown IsSimplified vars f x parts
 expansion_grown vars f fine proper x parts is = at_choice_grown vars f fine proper (choice f (as_vars vars)) refl x parts is
+
+-- each successor has fewer variables
+successors_fall : (vars : List ℕ) (f : Formula) (x : ℕ) → IsIn x (remaining vars f) → (gs : List Formula) → Each (λ g. (y : ℕ) → Has y g → Has y f × (y ≢ x)) gs
+    → Each (λ g. length (remaining vars g) < length (remaining vars f)) gs
+successors_fall vars f x chosen [] fewer = tt
+successors_fall vars f x chosen (g ∷ gs) fewer = (fewer_left vars f g x chosen fewer.0, successors_fall vars f x chosen gs fewer.1)
 
 -- the expansion of nodes is sound: of a simplified formula come simplified ones
 pub expansion_sound : tree.IsSound IsSimplified expansion
@@ -191,4 +198,7 @@ expansion_sound = record {
   good = fine_simplified;
   keeps = fine_keeps;
   grows = λ vars f good x parts is. expansion_grown (remaining vars f) f (simplified_fine f good) (simplified_is_proper f good) x parts is;
+  falls = λ vars f good x parts is.
+      let grown = expansion_grown (remaining vars f) f (simplified_fine f good) (simplified_is_proper f good) x parts is in
+      successors_fall vars f x grown.chosen (forms_of parts) grown.fewer;
 }

@@ -47,7 +47,7 @@ module _ (vars : List ℕ) (f : Formula) (occurring : remaining vars f ≡ vars)
 pub successors_true : (vs : List Var) (f : Formula) (n : Sight) (list : List (Next Sight)) → record { vars = numbers vs; form = f } ≡ n → IsNode (record { vars = numbers vs; form = f }) → (IsPlain f → IsFine f)
     → expansion_of n ≡ Ok (numbered_nodes list) → TruthIsKept n list
 successors_true vs f n list view node fine is =
-    subst (λ m. expansion_of m ≡ Ok (numbered_nodes list) → TruthIsKept m list) view (by_expanded (expansion vars f) refl) is
+    subst (λ m. expansion_of m ≡ Ok (numbered_nodes list) → TruthIsKept m list) view (by_expanded (expansion.becomes vars f) refl) is
   where
     vars : List ℕ
     vars = numbers vs
@@ -55,7 +55,7 @@ successors_true vs f n list view node fine is =
     canonical : IsFine f
     canonical = fine (proper_plain f node.proper)
 
-    by_expanded : (e : Expanded NodeStop) → expansion vars f ≡ e → with_nodes vars e ≡ Ok (numbered_nodes list)
+    by_expanded : (e : Expanded NodeStop) → expansion.becomes vars f ≡ e → with_nodes vars e ≡ Ok (numbered_nodes list)
         → (p : Point) → IsPoint p → Is (under_ex vars f) true p ↔ Is (Or (trees_of (map (λ s. node_formula s.piece) list))) true p
     by_expanded (successors x parts) grows gives = grown_true vars f node.occurring x parts list canonical (expansion_grown vars f canonical node.proper x parts grows) (cc)
     by_expanded (failed s) grows gives = absurd (cc)

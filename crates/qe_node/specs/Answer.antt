@@ -26,7 +26,7 @@ with_nodes vars (failed s) = Err s
 
 -- the successors of a node with their numbers, or why it fails
 abbrev pub expansion_of : Sight → Result (List (ℕ × Sight)) NodeStop
-expansion_of n = with_nodes n.vars (expansion n.vars n.form)
+expansion_of n = with_nodes n.vars (expansion.becomes n.vars n.form)
 
 -- ---- the answer
 

@@ -1,6 +1,6 @@
 -- The successors of a node: a variable is chosen and each of its candidates tried in turn; or why
 -- the node fails.
-use Rattle.std.specs.Prelude.{ℕ, suc, cond, List, [], ◌∷◌, map, Option, Some, None, Result, Ok, Err}
+use Rattle.std.specs.Prelude.{ℕ, suc, cond, List, [], ◌∷◌, length, map, Option, Some, None, Result, Ok, Err}
 use Rattle.qe_poly.specs.declared.monomial.Var.{Var}
 use Rattle.qe_poly.specs.declared.limit.PolyLimit.{PolyLimit}
 use Rattle.qe_poly.specs.Polynomial.{Polynomial}
@@ -101,6 +101,10 @@ at_choice f (Some v) = at_variable v.0 (given_by v.0 f 0 (candidates v.0 f))
 abbrev pub as_vars : List ℕ → List Var
 as_vars xs = map (λ x. record { 0 = x }) xs
 
--- what becomes of the node with these variables and this formula
+-- of the node with these variables and this formula: the number of its variables, and what becomes
+-- of it
 abbrev pub expansion : Expansion NodeStop
-expansion xs f = at_choice f (choice f (as_vars xs))
+expansion = record {
+  height = λ xs f. length xs;
+  becomes = λ xs f. at_choice f (choice f (as_vars xs));
+}

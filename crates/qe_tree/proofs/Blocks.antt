@@ -1,5 +1,5 @@
 -- What a block gives stands for the block, and what elimination gives for the prenex form.
-use Rattle.std.proofs.Common.{ℕ, suc, ◌≡◌, refl, subst, inl, inr, Bool, true, false, cond, List, [], ◌∷◌, length, Option, Some, None, arith}
+use Rattle.std.proofs.Common.{ℕ, suc, ◌≡◌, refl, subst, inl, inr, Bool, true, false, cond, List, [], ◌∷◌, Option, Some, None, arith}
 use Rattle.qe_tower.specs.Point.{Point, IsPoint}
 use Rattle.qe_poly.specs.Polynomial.{IsPolynomial}
 use Rattle.qe_form.specs.Formula.{Formula, True, Or}
@@ -14,7 +14,7 @@ use Rattle.qe_simp.specs.Simplified.{simplified}
 use Rattle.qe_form.specs.Blocks.{QuantifierKind, exists, for_all, Block, under_each, under_blocks}
 use Rattle.qe_tree.specs.Variables.{remaining, under_ex}
 use Rattle.qe_tree.specs.Expanded.{Expansion}
-use Rattle.qe_tree.specs.Tree.{Step, Place, Inner, form, node, is_empty, is_leaf, places, nodes, leaves, first_failure, has_true_leaf, or_form, inner}
+use Rattle.qe_tree.specs.Tree.{Step, Place, Inner, form, node, is_empty, is_leaf, places, height, nodes, leaves, first_failure, has_true_leaf, or_form, inner}
 use Rattle.qe_tree.specs.Sound.{IsIn, Each, IsFine, IsReady, IsSound}
 use Rattle.qe_tree.specs.Block.{matrix_for, root, result_for, Eliminated, given, stopped, of_inner, block_over, eliminated_from, eliminated}
 use Rattle.qe_tree.proofs.Occurs.{is_left}
@@ -53,12 +53,12 @@ module _ {F : Type 0} (Good : Formula → Type 0) (expand : Expansion F) (sound 
     -- a true leaf makes the block true
     true_by_leaf : (p : Point) → IsPoint p → SomeForm (LeafIs expand vars p) all_nodes → Is (under_ex vars f) true p
     true_by_leaf p valid some =
-        (whole_is vars f none p valid).1 (leaf_makes_true Good expand sound vars (length (remaining vars f)) [] f good p valid (firsts_some (LeafIs expand vars p) [] all_places some))
+        (whole_is vars f none p valid).1 (leaf_makes_true Good expand sound vars (height expand vars f) [] f good p valid (firsts_some (LeafIs expand vars p) [] all_places some))
 
     -- where no node fails, a true block has a true leaf
     leaf_by_true : first_failure expand vars all_nodes ≡ None → (p : Point) → IsPoint p → Is (under_ex vars f) true p → SomeForm (LeafIs expand vars p) all_nodes
     leaf_by_true fine p valid t =
-        some_firsts (LeafIs expand vars p) all_places (true_has_leaf Good expand sound vars (length (remaining vars f)) [] f good (omega arith) p valid
+        some_firsts (LeafIs expand vars p) all_places (true_has_leaf Good expand sound vars (height expand vars f) [] f good (omega arith) p valid
         (firsts_each (Sound expand vars) [] all_places tt (no_failure expand vars all_nodes fine))
         ((whole_is vars f none p valid).0 t))
 
@@ -72,7 +72,7 @@ module _ {F : Type 0} (Good : Formula → Type 0) (expand : Expansion F) (sound 
     each_leaf = leaves_each expand vars Kept all_nodes (each_firsts Kept [] all_places (both all_places (good_walk Good expand sound vars n [] f good) (has_walk Good expand sound vars n [] f good)))
       where
         n : ℕ
-        n = length (remaining vars f)
+        n = height expand vars f
 
         Kept : Formula → Type 0
         Kept g = Good g × ((y : ℕ) → Has y g → Has y f)

@@ -63,6 +63,6 @@ module _ {F : Type 0} (Good : Formula → Type 0) (expand : Expansion F) (sound 
   good_no_quantifier f good = fine_no_quantifier f (sound.fine f good)
 
   -- the law
-  pub growth_keeps_truth : (f : Formula) → Good f → (x : ℕ) (parts : List (ℕ × Formula)) → expand (remaining vars f) f ≡ successors x parts
+  pub growth_keeps_truth : (f : Formula) → Good f → (x : ℕ) (parts : List (ℕ × Formula)) → expand.becomes (remaining vars f) f ≡ successors x parts
       → (p : Point) → IsPoint p → Is (existential_closure vars f) true p ↔ Is (Or (trees_of (map (existential_closure vars) (forms_of parts)))) true p
   growth_keeps_truth f good x parts e = grown_keeps_truth Good good_no_quantifier vars f (good_no_quantifier f good) x parts (sound.grows vars f good x parts e)

@@ -1,5 +1,5 @@
 -- A node is true for some values of its variables exactly where some leaf of its tree is true, if no node fails.
-use Rattle.std.proofs.Common.{ℕ, zero, suc, ◌≡◌, ◌∙◌, sym, ap, refl, subst, ◌≤◌, inl, inr, ◌⊎◌, ◌↔◌, Bool, true, false, cond, ◌||◌, List, [], ◌∷◌, ◌++◌, map, length, Option, Some, None, arith}
+use Rattle.std.proofs.Common.{ℕ, zero, suc, ◌≡◌, ◌∙◌, sym, ap, refl, subst, ◌≤◌, inl, inr, ◌⊎◌, ◌↔◌, Bool, true, false, cond, ◌||◌, List, [], ◌∷◌, ◌++◌, map, Option, Some, None, arith}
 use Rattle.std.specs.List.{flat_map}
 use Rattle.qe_tower.specs.Point.{Point, IsPoint}
 use Rattle.qe_form.specs.Formula.{Formula, True}
@@ -10,7 +10,7 @@ use Rattle.qe_tree.specs.Expanded.{Expansion}
 use Rattle.qe_form.specs.Making.{is_true}
 use Rattle.qe_tree.specs.Tree.{Step, Place, is_empty, is_leaf, below, failure, walk, leaves, or_fails, first_failure, has_true_leaf}
 use Rattle.qe_tree.specs.Sound.{Each, forms_of, IsSound}
-use Rattle.qe_tree.proofs.Walks.{EachForm, SomeForm, append-EachForm, append-SomeForm, SomeForm-append, with_step, Kind, leaf, fails, grows, kind_of, IsBelow, left_of, each_below}
+use Rattle.qe_tree.proofs.Walks.{EachForm, SomeForm, append-EachForm, append-SomeForm, SomeForm-append, with_step, Kind, leaf, fails, grows, kind_of, IsBelow, height_of, each_below, no_parts}
 use Rattle.qe_tree.proofs.Growth.{growth_keeps_truth}
 
 is_empty_is : {A : Type 0} (xs : List A) → is_empty xs ≡ true → xs ≡ []
@@ -84,8 +84,8 @@ module _ {F : Type 0} (Good : Formula → Type 0) (expand : Expansion F) (sound 
   abbrev Below : Formula → Formula → Type 0
   Below = IsBelow Good expand sound vars
 
-  abbrev left : Formula → ℕ
-  left = left_of Good expand sound vars
+  abbrev height : Formula → ℕ
+  height = height_of Good expand sound vars
 
   abbrev Leaf : Point → Formula → Type 0
   Leaf = LeafIs expand vars
@@ -127,9 +127,9 @@ module _ {F : Type 0} (Good : Formula → Type 0) (expand : Expansion F) (sound 
   -- ---- where no node fails, a true node has a true leaf
 
   abbrev TrueHasLeaf : ℕ → Type 0
-  TrueHasLeaf n = (path : List Step) (f : Formula) → Good f → left f ≤ n → (p : Point) → IsPoint p → EachForm (Sound expand vars) (walk expand vars n path f) → Is (existential_closure vars f) true p → SomeForm (Leaf p) (walk expand vars n path f)
+  TrueHasLeaf n = (path : List Step) (f : Formula) → Good f → height f ≤ n → (p : Point) → IsPoint p → EachForm (Sound expand vars) (walk expand vars n path f) → Is (existential_closure vars f) true p → SomeForm (Leaf p) (walk expand vars n path f)
 
-  parts_leaf : (n : ℕ) → TrueHasLeaf n → (path : List Step) (f : Formula) → left f ≤ suc n → (x : ℕ) (parts : List (ℕ × Formula)) → Each (λ s. Below f s.1) parts → (p : Point) → IsPoint p
+  parts_leaf : (n : ℕ) → TrueHasLeaf n → (path : List Step) (f : Formula) → height f ≤ suc n → (x : ℕ) (parts : List (ℕ × Formula)) → Each (λ s. Below f s.1) parts → (p : Point) → IsPoint p
       → EachForm (Sound expand vars) (further n path (map (with_step x) parts)) → SomeIs (trees_of (map (existential_closure vars) (forms_of parts))) true p → SomeForm (Leaf p) (further n path (map (with_step x) parts))
   parts_leaf n again path f few x [] each p valid none some = absurd some
   parts_leaf n again path f few x (s ∷ parts) each p valid none some =
@@ -148,12 +148,14 @@ module _ {F : Type 0} (Good : Formula → Type 0) (expand : Expansion F) (sound 
   leaf_itself : (f : Formula) (p : Point) → remaining vars f ≡ [] → Is (existential_closure vars f) true p → Leaf p f
   leaf_itself f p gone t = (is_leaf_of f gone, subst (λ l. Is (under_ex l f) true p) gone t)
 
-  few_gone : (l : List ℕ) → length l ≤ 0 → l ≡ []
-  few_gone [] few = refl
-  few_gone (y ∷ ys) few = absurd (omega arith)
-
   pub true_has_leaf : (n : ℕ) → TrueHasLeaf n
-  true_has_leaf zero path f good few p valid none t = inl (leaf_itself f p (few_gone (remaining vars f) few) t)
+  true_has_leaf zero path f good few p valid none t = by_kind (kind_of expand vars f)
+    where
+      by_kind : Kind expand vars f → SomeForm (Leaf p) (record { path = path; form = f } ∷ [])
+      by_kind (leaf gone empty fine) = inl (leaf_itself f p gone t)
+      by_kind (fails s empty fault) = absurd (let other = sym fault ∙ none.0 in cc)
+      by_kind (grows x parts is all fine) =
+          absurd (subst (λ ss. SomeIs (trees_of (map (existential_closure vars) (forms_of ss))) true p) (no_parts Good expand sound vars f good few x parts is) ((growth_keeps_truth Good expand sound vars f good x parts is p valid).0 t))
   true_has_leaf (suc n) path f good few p valid none t = by_kind (true_has_leaf n) (kind_of expand vars f)
     where
       by_kind : TrueHasLeaf n → Kind expand vars f → SomeForm (Leaf p) (record { path = path; form = f } ∷ further n path (below expand vars f))

@@ -7,6 +7,4 @@ pub mod FirstPlaces
 pub mod Leaves
 pub mod Stands
 pub mod Blocks
-pub mod Searching
-pub mod Ends
 pub mod Small

@@ -9,7 +9,7 @@ use Rattle.qe_form.specs.Negation.{negated, negated_each}
 use Rattle.qe_simp.specs.Simplified.{simplified}
 use Rattle.qe_tree.specs.Variables.{remaining}
 use Rattle.qe_tree.specs.Expanded.{Expansion}
-use Rattle.qe_tree.specs.Tree.{Step, Place, Inner, form, node, is_empty, unless_leaf, grown, is_leaf, below, walk, places, first_places, nodes, leaves, first_failure, has_true_leaf, or_form, inner}
+use Rattle.qe_tree.specs.Tree.{Step, Place, Inner, form, node, is_empty, unless_leaf, grown, is_leaf, below, walk, places, height, first_places, nodes, leaves, first_failure, has_true_leaf, or_form, inner}
 use Rattle.qe_tree.specs.Sound.{Each, IsFine, IsReady, IsSound}
 use Rattle.qe_form.specs.Blocks.{QuantifierKind, exists, for_all, Block}
 use Rattle.qe_tree.specs.Block.{matrix_for, root, result_for, given, of_inner, block_over, Fits}
@@ -76,7 +76,7 @@ module _ {F : Type 0} (Good : Formula → Type 0) (expand : Expansion F) (sound 
     none = λ test. ap (further n []) (no_variables (remaining vars f) test);
   }
     where
-      no_variables : (l : List ℕ) → is_empty l ≡ true → unless_leaf l [] (grown (expand (remaining vars f) f)) ≡ []
+      no_variables : (l : List ℕ) → is_empty l ≡ true → unless_leaf l [] (grown (expand.becomes (remaining vars f) f)) ≡ []
       no_variables [] test = refl
       no_variables (x ∷ xs) test = absurd (cc)
 
@@ -93,7 +93,7 @@ module _ {F : Type 0} (Good : Formula → Type 0) (expand : Expansion F) (sound 
   joined_size f good = subst (λ ps. count_each (trees_of (leaves expand vars (first_places [] ps))) ≤ max (count f) (65538 * length (first_places [] ps))) (sym w.are) (by_leaf (is_leaf expand vars f) refl)
     where
       w : HasRest f (places expand vars f)
-      w = rest_of (length (remaining vars f)) f good
+      w = rest_of (height expand vars f) f good
 
       others : List Place
       others = first_places (f ∷ []) w.rest

@@ -8,6 +8,8 @@ pub data Expanded (F : Type 0) : Type 0 where
   successors : ℕ → List (ℕ × Formula) → Expanded F
   failed : F → Expanded F
 
--- what becomes of the node with these variables and this formula
-abbrev pub Expansion : Type 0 → Type 0
-Expansion F = List ℕ → Formula → Expanded F
+-- of the node with these variables and this formula: a number that is smaller at each successor, and
+-- what becomes of the node
+pub record Expansion (F : Type 0) : Type 0 where
+  pub height : List ℕ → Formula → ℕ
+  pub becomes : List ℕ → Formula → Expanded F

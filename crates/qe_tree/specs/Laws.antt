@@ -17,7 +17,7 @@ module _ {F : Type 0} (Good : Formula → Type 0) (expand : Expansion F) where
   -- values of its own
   abbrev pub GrowthKeepsTruth : Type 0
   GrowthKeepsTruth =
-      (vars : List ℕ) (f : Formula) → Good f → (x : ℕ) (parts : List (ℕ × Formula)) → expand (remaining vars f) f ≡ successors x parts
+      (vars : List ℕ) (f : Formula) → Good f → (x : ℕ) (parts : List (ℕ × Formula)) → expand.becomes (remaining vars f) f ≡ successors x parts
       → (p : Point) → IsPoint p → Is (existential_closure vars f) true p ↔ Is (Or (trees_of (map (existential_closure vars) (forms_of parts)))) true p
 
   -- a block's inner result, where it is a formula, is the same as the root under `ex` of the

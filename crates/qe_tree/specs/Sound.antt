@@ -1,5 +1,5 @@
 -- When an expansion is sound.
-use Rattle.std.specs.Prelude.{ℕ, ◌≤◌, ◌≡◌, ◌≢◌, ◌⊎◌, ◌↔◌, true, List, [], ◌∷◌, map}
+use Rattle.std.specs.Prelude.{ℕ, ◌≤◌, ◌<◌, ◌≡◌, ◌≢◌, ◌⊎◌, ◌↔◌, true, List, [], ◌∷◌, map}
 use Rattle.qe_tower.specs.Point.{Point, IsPoint}
 use Rattle.qe_poly.specs.Polynomial.{IsPolynomial}
 use Rattle.qe_form.specs.Formula.{Formula, Ex, Or}
@@ -45,10 +45,12 @@ pub record IsReady (Good : Formula → Type 0) (f : Formula) : Type 0 where
   pub keeps : Keeps f (simplified f)
 
 -- The good formulas are those that come up: simplified ones. The successors of each node are grown
--- from it.
+-- from it, and have smaller heights.
 pub record IsSound {F : Type 0} (Good : Formula → Type 0) (expand : Expansion F) : Type 0 where
   pub fine : (f : Formula) → Good f → IsFine f
   pub good : (f : Formula) → IsFine f → Good (simplified f)
   pub keeps : (f : Formula) → IsFine f → Keeps f (simplified f)
   pub grows : (vars : List ℕ) (f : Formula) → Good f → (x : ℕ) (parts : List (ℕ × Formula))
-      → expand (remaining vars f) f ≡ successors x parts → IsGrown Good (remaining vars f) f x parts
+      → expand.becomes (remaining vars f) f ≡ successors x parts → IsGrown Good (remaining vars f) f x parts
+  pub falls : (vars : List ℕ) (f : Formula) → Good f → (x : ℕ) (parts : List (ℕ × Formula))
+      → expand.becomes (remaining vars f) f ≡ successors x parts → Each (λ g. expand.height (remaining vars g) g < expand.height (remaining vars f) f) (forms_of parts)

@@ -1,6 +1,6 @@
 -- The tree of a block: its root and, below each node that has variables and does not fail, the
 -- successors in order.
-use Rattle.std.specs.Prelude.{ℕ, zero, suc, Bool, true, false, cond, List, [], ◌∷◌, ◌++◌, map, filter, flat_map, length, Option, Some, None}
+use Rattle.std.specs.Prelude.{ℕ, zero, suc, Bool, true, false, cond, List, [], ◌∷◌, ◌++◌, map, filter, flat_map, Option, Some, None}
 use Rattle.std.specs.List.{list_any}
 use Rattle.std.specs.Ordering.{is_eq}
 use Rattle.qe_form.specs.Formula.{Formula, True, Or}
@@ -47,7 +47,11 @@ unless_leaf (x ∷ xs) at_leaf otherwise = otherwise
 module _ {F : Type 0} (expand : Expansion F) (vars : List ℕ) where
   -- what becomes of the formula at a node
   abbrev pub expanded : Formula → Expanded F
-  expanded f = expand (remaining vars f) f
+  expanded f = expand.becomes (remaining vars f) f
+
+  -- the height of the node of a formula
+  abbrev pub height : Formula → ℕ
+  height f = expand.height (remaining vars f) f
 
   -- the successors of a node, with the steps to them; a leaf has none
   abbrev pub below : Formula → List (Step × Formula)
@@ -65,10 +69,10 @@ module _ {F : Type 0} (expand : Expansion F) (vars : List ℕ) where
   walk zero path f = record { path = path; form = f } ∷ []
   walk (suc n) path f = record { path = path; form = f } ∷ flat_map (λ s. walk n (path ++ s.0 ∷ []) s.1) (below f)
 
-  -- the places of the whole tree, with repeats: each step eliminates a variable, so there are no
-  -- more steps than variables
+  -- the places of the whole tree, with repeats: each step lowers the height, so there are no more
+  -- steps than the root's
   abbrev pub places : Formula → List Place
-  places f = walk (length (remaining vars f)) [] f
+  places f = walk (height f) [] f
 
 -- whether the formula is one of them
 abbrev pub is_among : Formula → List Formula → Bool
