@@ -1,0 +1,9 @@
+pub mod Small
+pub mod Products
+pub mod Values
+pub mod Simplifying
+pub mod Substituting
+pub mod Expanding
+pub mod Trees
+pub mod Generated
+pub mod Inputs
