@@ -1,12 +1,14 @@
 -- Entries as lists of pieces and of what has become of each.
-use Rattle.std.proofs.Common.{ℕ, zero, suc, ◌+◌, ◌<◌, ◌≡◌, ◌↔◌, refl, ap, subst, Bool, true, false, cond, not, ◌||◌, List, [], ◌∷◌, ◌++◌, length, map, take, Option, Some, None, arith}
+use Rattle.std.proofs.Common.{ℕ, zero, suc, ◌+◌, ◌<◌, ◌≡◌, ◌↔◌, ◌≤◌, refl, sym, ap, subst, Bool, true, false, cond, not, ◌||◌, List, [], ◌∷◌, ◌++◌, length, map, take, Option, Some, None, option_map, arith}
 use Rattle.std.specs.Prelude.{IsTrue, nat_lt, position, slice_get, slice_set, slice_index_or}
+use lib.ListN.{get_or}
 use Rattle.std.specs.List.{list_any, position_or_len}
 use Rattle.std.proofs.lemmas.Bool.Decides.{nat_tests}
 use Rattle.qe_board.specs.State.{Key, Condition, Entry, at}
 use Rattle.qe_board.specs.Machine.{same_key, among, index_of, put}
 use Rattle.qe_board.specs.declared.entries.Progress.{Progress}
 use Rattle.qe_board.specs.Shown.{condition, conditions, entries_of, IsCopy, IsCopyAt, AreCopies, IsFound}
+use Rattle.qe_board.specs.Recorded.{links_of, links_at}
 use Rattle.qe_board.proofs.Keys.{same_tells}
 
 module _ {N F : Type 0} (key : N → Key) where
@@ -94,13 +96,13 @@ module _ {N F : Type 0} (key : N → Key) where
 
 -- ---- the number of a key
 
-same_bool : (a b : Bool) {P : Type 0} → IsTrue a ↔ P → IsTrue b ↔ P → a ≡ b
+pub same_bool : (a b : Bool) {P : Type 0} → IsTrue a ↔ P → IsTrue b ↔ P → a ≡ b
 same_bool true true p q = refl
 same_bool false false p q = refl
 same_bool true false p q = absurd (let h = q.1 (p.0 refl) in cc)
 same_bool false true p q = absurd (let h = p.1 (q.0 refl) in cc)
 
-index_inside : (k : Key) (ks : List Key) → among k ks ≡ true → index_of k ks < length ks
+pub index_inside : (k : Key) (ks : List Key) → among k ks ≡ true → index_of k ks < length ks
 index_inside k [] h = absurd (cc)
 index_inside k (j ∷ js) h = by_test (same_key k j) h (index_inside k js)
   where
@@ -113,6 +115,24 @@ index_outside k [] h = refl
 index_outside k (j ∷ js) h = by_test (same_key k j) h (index_outside k js)
   where
     by_test : (b : Bool) → (b || among k js) ≡ false → (among k js ≡ false → index_of k js ≡ length js) → cond b 0 (suc (index_of k js)) ≡ suc (length js)
+    by_test true none again = absurd (cc)
+    by_test false none again = ap suc (again none)
+
+-- more keys behind change no number of one that is there
+pub index_stays : (k : Key) (ks more : List Key) → among k ks ≡ true → index_of k (ks ++ more) ≡ index_of k ks
+index_stays k [] more h = absurd (cc)
+index_stays k (j ∷ js) more h = by_test (same_key k j) h (index_stays k js more)
+  where
+    by_test : (b : Bool) → (b || among k js) ≡ true → (among k js ≡ true → index_of k (js ++ more) ≡ index_of k js) → cond b 0 (suc (index_of k (js ++ more))) ≡ cond b 0 (suc (index_of k js))
+    by_test true some again = refl
+    by_test false some again = ap suc (again some)
+
+-- the number of one that comes anew
+pub index_next : (k : Key) (ks more : List Key) → among k ks ≡ false → index_of k (ks ++ k ∷ more) ≡ length ks
+index_next k [] more h = ap (λ b. cond b 0 (suc (index_of k more))) ((same_tells k k).1 refl)
+index_next k (j ∷ js) more h = by_test (same_key k j) h (index_next k js more)
+  where
+    by_test : (b : Bool) → (b || among k js) ≡ false → (among k js ≡ false → index_of k (js ++ k ∷ more) ≡ length js) → cond b 0 (suc (index_of k (js ++ k ∷ more))) ≡ suc (length js)
     by_test true none again = absurd (cc)
     by_test false none again = ap suc (again none)
 
@@ -163,3 +183,43 @@ module _ {N : Type 0} (key : N → Key) (eq : N → N → Bool) (is_key : (x y :
       by_test : (b : Bool) → nat_lt (position_or_len (eq n) ns) (length ns) ≡ b → IsFound (map key ns) (key n) (cond b (Some (position_or_len (eq n) ns)) None)
       by_test true h = (inside h (among (key n) (map key ns)) refl, place_is ns)
       by_test false h = outside h (among (key n) (map key ns)) refl
+
+-- ---- one entry
+
+pub mapped_get : {A B : Type 0} (f : A → B) (xs : List A) (n : ℕ) → option_map f (slice_get xs n) ≡ slice_get (map f xs) n
+mapped_get f [] n = refl
+mapped_get f (x ∷ xs) zero = refl
+mapped_get f (x ∷ xs) (suc n) = mapped_get f xs n
+
+-- what has become of each, in order
+pub conditions_are : {N F : Type 0} (key : N → Key) (ns : List N) (ps : List (Progress N F)) → AreCopies key ns ps → conditions (entries_of key ns ps) ≡ map condition ps
+conditions_are key [] [] ok = refl
+conditions_are key [] (p ∷ ps) ok = absurd ok
+conditions_are key (n ∷ ns) [] ok = absurd ok
+conditions_are key (n ∷ ns) (p ∷ ps) ok = ap (λ cs. condition p ∷ cs) (conditions_are key ns ps ok.1)
+
+pub got_one : {A B : Type 0} (f : A → B) (xs : List A) (n : ℕ) (x : A) → n < length xs → x ≡ get_or xs n x → slice_get (map f xs) n ≡ Some (f x)
+got_one f [] n x within is = absurd (omega (arith, within))
+got_one f (y ∷ xs) zero x within is = ap (λ z. Some (f z)) (sym is)
+got_one f (y ∷ xs) (suc n) x within is = got_one f xs n x (omega (arith, within)) is
+
+pub got_none : {A B : Type 0} (f : A → B) (xs : List A) (n : ℕ) → length xs ≤ n → ◌≡◌ {A = Option B} (slice_get (map f xs) n) None
+got_none f [] n beyond = refl
+got_none f (y ∷ xs) zero beyond = absurd (omega (arith, beyond))
+got_none f (y ∷ xs) (suc n) beyond = got_none f xs n (omega (arith, beyond))
+
+-- ---- what an entry is, by its condition
+
+module _ {F : Type 0} where
+  own_out : (c d : Condition F) → ◌≡◌ {A = Option (Condition F)} (Some c) (Some d) → c ≡ d
+  own_out c d e = cc
+
+  pub test_by : (p : Condition F → Bool) (n : ℕ) (es : List (Entry F)) (c : Condition F) → slice_get (conditions es) n ≡ Some c → p c ≡ at p n es
+  test_by p n [] c is = absurd (cc)
+  test_by p zero (e ∷ es) c is = ap p (sym (own_out e.condition c is))
+  test_by p (suc n) (e ∷ es) c is = test_by p n es c is
+
+  pub links_by : (n : ℕ) (es : List (Entry F)) (c : Condition F) → slice_get (conditions es) n ≡ Some c → links_of c ≡ links_at n es
+  links_by n [] c is = absurd (cc)
+  links_by zero (e ∷ es) c is = ap links_of (sym (own_out e.condition c is))
+  links_by (suc n) (e ∷ es) c is = links_by n es c is

@@ -11,6 +11,7 @@ use Rattle.qe_board.specs.State.{Key, IsAmong, Distinct, Link, Condition, waitin
 use Rattle.qe_board.specs.Machine.{new_keys, put, drop_waiting, waits_first, holds, opening_entry, opened, links, fits, meaning_at, gives_and, does_fail, is_enabled, given, failing, effect, IsRunFrom, replay_from}
 use Rattle.qe_board.specs.Tree.{Position, positions, nodes, Falls}
 use Rattle.qe_board.specs.Kept.{AreLinks, IsFit, AreFit}
+use Rattle.qe_board.proofs.Counting.{keys_put, keys_drop, keys_append}
 use Rattle.qe_board.proofs.Keys.{Within, in_left, in_append, all_known, new_from, new_distinct, no_more_than, number_stands, stands_still}
 use Rattle.qe_board.proofs.Walks.{position_keys, positions_closed, root_stands, first_has}
 use Rattle.qe_board.proofs.Conditions.{first_waits}
@@ -41,15 +42,6 @@ module _ {F : Type 0} (meaning : Key → Meaning F) (is_leaf truth : Key → Boo
     pub beyond : s.stop ≡ Limit → limit < length (nodes meaning is_leaf truth height root)
 
   -- ---- conditions that change
-
-  keys_put : (n : ℕ) (c : Condition F) (es : List (Entry F)) → entry_keys (put n c es) ≡ entry_keys es
-  keys_put n c [] = refl
-  keys_put zero c (e ∷ es) = refl
-  keys_put (suc n) c (e ∷ es) = ap (λ ks. e.key ∷ ks) (keys_put n c es)
-
-  keys_drop : (es : List (Entry F)) → entry_keys (drop_waiting es) ≡ entry_keys es
-  keys_drop [] = refl
-  keys_drop (e ∷ es) = ap (λ ks. e.key ∷ ks) (keys_drop es)
 
   -- more keys, and a stop that is set
   links_more : (ks js : List Key) → Still ks js → (ls : List Link) (cs : List Child) → AreLinks ls cs ks → AreLinks ls cs js
@@ -120,13 +112,9 @@ module _ {F : Type 0} (meaning : Key → Meaning F) (is_leaf truth : Key → Boo
   opening_fit ks [] b = tt
   opening_fit ks (j ∷ js) b = (elim (is_leaf j) as (λ t. is_leaf j ≡ t → Fit ks b (cond t leaf waiting) j) [ true ↦ λ e. e | false ↦ λ e. e ] refl, opening_fit ks js b)
 
-  opening_keys : (js : List Key) → entry_keys (map (opening_entry is_leaf) js) ≡ js
+  pub opening_keys : (js : List Key) → entry_keys (map (opening_entry is_leaf) js) ≡ js
   opening_keys [] = refl
   opening_keys (j ∷ js) = ap (λ ks. j ∷ ks) (opening_keys js)
-
-  append_keys : (es more : List (Entry F)) → entry_keys (es ++ more) ≡ entry_keys es ++ entry_keys more
-  append_keys [] more = refl
-  append_keys (e ∷ es) more = ap (λ ks. e.key ∷ ks) (append_keys es more)
 
   all_fit_stopped : (ks : List Key) (b : Bool) (es : List (Entry F)) → AllFit ks b es → AllFit ks false es
   all_fit_stopped ks b [] h = tt
@@ -215,7 +203,7 @@ module _ {F : Type 0} (meaning : Key → Meaning F) (is_leaf truth : Key → Boo
         let ks = new_keys (keys s) (keys_of cs) in
         let c : Condition F = expanded (links cs (keys s ++ ks)) in
         let grown : entry_keys (put n c s.entries ++ map (opening_entry is_leaf) ks) ≡ keys s ++ ks =
-        append_keys (put n c s.entries) (map (opening_entry is_leaf) ks) ∙ (λ i. keys_put n c s.entries i ++ opening_keys ks i) in
+        keys_append (put n c s.entries) (map (opening_entry is_leaf) ks) ∙ (λ i. keys_put n c s.entries i ++ opening_keys ks i) in
         let known : AllFit (keys s ++ ks) (is_unset s.stop) s.entries = all_fit_more (keys s) (keys s ++ ks) (is_unset s.stop) (λ i x at. stands_still i x (keys s) ks at) s.entries sound.fit in
         let now : AllFit (keys s ++ ks) (is_unset s.stop) (put n c s.entries ++ map (opening_entry is_leaf) ks) =
         fit_append (keys s ++ ks) (is_unset s.stop) (put n c s.entries) _
@@ -257,7 +245,7 @@ module _ {F : Type 0} (meaning : Key → Meaning F) (is_leaf truth : Key → Boo
         (fit_put (keys s) (is_unset s.stop) (is_held_by w) n (failed f) s.entries sound.fit there
         (λ e at passes fit. (held_inner (keys s) (is_unset s.stop) w e.condition e.key passes fit, some_same (meaning e.key) (fails f) (meaning_found s n e (Some (fails f)) at is)))) sound.beyond
 
-    sound_left : (e : Event) (s : State F) → IsSound root s → enabled e s ≡ true → IsSound root (after e s)
+    pub sound_left : (e : Event) (s : State F) → IsSound root s → enabled e s ≡ true → IsSound root (after e s)
     sound_left (Take w n) s sound h =
         let first = (both_hold (waits_first n s.entries) _ h).0 in
         same_keys root s sound (put n (held w) s.entries) s.stop (keys_put n (held w) s.entries)

@@ -55,7 +55,7 @@ links_within ks [] (c ∷ cs) h x i = absurd h
 links_within ks (l ∷ ls) [] h x i = absurd h
 
 module _ {F : Type 0} (meaning : Key → Meaning F) (is_leaf truth : Key → Bool) (height : Key → ℕ) (limit : ℕ) where
-  abbrev Fit : List Key → Bool → List (Entry F) → Type 0
+  abbrev pub Fit : List Key → Bool → List (Entry F) → Type 0
   Fit = AreFit meaning is_leaf truth height
 
   abbrev under : Key → List Child
@@ -134,28 +134,28 @@ module _ {F : Type 0} (meaning : Key → Meaning F) (is_leaf truth : Key → Boo
   -- ---- the laws
 
   module _ (falls : Falls meaning is_leaf truth height) (some : 1 ≤ limit) (root : Key) (events : List Event) (run : IsRun meaning is_leaf truth limit root events) where
-    abbrev s : State F
+    abbrev pub s : State F
     s = replay meaning is_leaf truth limit root events
 
-    abbrev tree : List Position
+    abbrev pub tree : List Position
     tree = nodes meaning is_leaf truth height root
 
-    sound : IsSound meaning is_leaf truth height limit root s
+    pub sound : IsSound meaning is_leaf truth height limit root s
     sound = sound_run meaning is_leaf truth height limit falls root some events run
 
     means : StopMeans s.stop (count is_waiting s.entries) (has_true_leaf truth s)
     means = (run_laws meaning is_leaf truth limit).stops_mean root events run
 
     -- a true entry is a true piece of the tree
-    true_in_tree : has_true_leaf truth s ≡ true → list_any (λ p. truth p.key) tree ≡ true
+    pub true_in_tree : has_true_leaf truth s ≡ true → list_any (λ p. truth p.key) tree ≡ true
     true_in_tree h =
         let k = any_entry truth s.entries h in
         any_from truth k.0 tree (elim (first_has [] (positions meaning is_leaf truth height root) k.0 (sound.within k.0 k.1.0)) [ inl none ↦ absurd none | inr i ↦ i ]) k.1.1
 
-    done_parts : is_done s ≡ true → (count is_waiting s.entries ≡ 0) × (count is_held s.entries ≡ 0)
+    pub done_parts : is_done s ≡ true → (count is_waiting s.entries ≡ 0) × (count is_held s.entries ≡ 0)
     done_parts h = let parts = both_hold (eqb (count is_waiting s.entries) 0) (eqb (count is_held s.entries) 0) h in (eqb-true (count is_waiting s.entries) 0 parts.0, eqb-true (count is_held s.entries) 0 parts.1)
 
-    fit_unset : s.stop ≡ Unset → Fit (keys s) true s.entries
+    pub fit_unset : s.stop ≡ Unset → Fit (keys s) true s.entries
     fit_unset unset = subst (λ t. Fit (keys s) (is_unset t) s.entries) unset sound.fit
 
     -- where nothing is left to do all pieces of the tree are entries
@@ -165,7 +165,7 @@ module _ {F : Type 0} (meaning : Key → Meaning F) (is_leaf truth : Key → Boo
         walk_within meaning is_leaf truth height (keys s) (closed (keys s) s.entries (fit_unset unset) parts.0 parts.1 refl) (height root) [] root sound.root_in k
         (first_from [] (positions meaning is_leaf truth height root) k h)
 
-    no_truth : has_true_leaf truth s ≡ false → is_done s ≡ true → s.stop ≡ Unset → list_any (λ p. truth p.key) tree ≡ false
+    pub no_truth : has_true_leaf truth s ≡ false → is_done s ≡ true → s.stop ≡ Unset → list_any (λ p. truth p.key) tree ≡ false
     no_truth none done unset = by_test (list_any (λ p. truth p.key) tree) refl
       where
         by_test : (b : Bool) → list_any (λ p. truth p.key) tree ≡ b → b ≡ false

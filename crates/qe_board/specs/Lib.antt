@@ -5,5 +5,12 @@ pub mod Shown
 pub mod Counted
 pub mod Kept
 pub mod Verdict
-pub mod Plain
 pub mod Laws
+pub mod History
+pub mod Plain
+pub mod Calls
+pub mod Admission
+pub mod Settled
+pub mod Recorded
+pub mod Places
+pub mod Visited

@@ -5,6 +5,7 @@ use Rattle.qe_board.specs.declared.event.Event.{Event}
 use Rattle.qe_board.specs.declared.event.Event.TheVariants.{Take, Give, Fail, Drop, Cancel, Fill, Starve}
 use Rattle.qe_board.specs.State.{Key, State, is_held, count, is_done, has_true_leaf}
 use Rattle.qe_board.specs.Machine.{is_enabled, effect, opened}
+use Rattle.qe_board.specs.History.{History, Holding, grown, state_of}
 
 module _ {F : Type 0} (meaning : Key → Meaning F) (is_leaf truth : Key → Bool) (limit : ℕ) where
   -- What the one worker does next: where a leaf is true it cancels; else it goes on with the entry that it holds, and takes one where
@@ -24,3 +25,15 @@ module _ {F : Type 0} (meaning : Key → Meaning F) (is_leaf truth : Key → Boo
 
   abbrev pub IsPlain : Key → List Event → Type 0
   IsPlain root es = IsPlainFrom (opened meaning is_leaf truth limit root) es
+
+-- the event of worker and entry by which what is held is held no more, where the container goes on
+abbrev pub IsExpansion : Event → Holding → Type 0
+IsExpansion (Give w n) h = (w ≡ h.worker) × (n ≡ h.entry)
+IsExpansion (Fail w n) h = (w ≡ h.worker) × (n ≡ h.entry)
+IsExpansion (Fill w n) h = (w ≡ h.worker) × (n ≡ h.entry)
+IsExpansion e h = ⊥
+
+-- what is held was expanded: one event, which may come
+abbrev pub IsExpanded : {F : Type 0} → (Key → Meaning F) → (is_leaf truth : Key → Bool) → History → Holding → History → Type 0
+IsExpanded meaning is_leaf truth old h new =
+    (e : Event) × (IsExpansion e h × ((is_enabled meaning is_leaf truth old.limit e (state_of meaning is_leaf truth old) ≡ true) × (new ≡ grown old (e ∷ []))))

@@ -1,14 +1,18 @@
 -- The entries of the code, as the machine has them.
 use Rattle.std.specs.Prelude.{ℕ, ◌≡◌, true, false, List, [], ◌∷◌, map, Option, Some, None, slice_get}
-use Rattle.qe_board.specs.State.{Key, Condition, waiting, held, expanded, leaf, failed, dropped, Entry}
+use Rattle.qe_board.specs.declared.entries.Link as code
+use Rattle.qe_board.specs.State.{Key, Link, Condition, waiting, held, expanded, leaf, failed, dropped, Entry}
 use Rattle.qe_board.specs.Machine.{among, index_of}
 use Rattle.qe_board.specs.declared.entries.Progress.{Progress}
 use Rattle.qe_board.specs.declared.entries.Progress.TheVariants as progress
 
+abbrev pub link_of : code.Link → Link
+link_of l = record { point = l.point; entry = l.entry }
+
 abbrev pub condition : {N F : Type 0} → Progress N F → Condition F
 condition (progress.Waiting n) = waiting
 condition (progress.Held w) = held w
-condition (progress.Expanded ls) = expanded (map (λ l. record { point = l.point; entry = l.entry }) ls.items)
+condition (progress.Expanded ls) = expanded (map link_of ls.items)
 condition progress.Leaf = leaf
 condition (progress.Failed f) = failed f
 condition progress.Dropped = dropped

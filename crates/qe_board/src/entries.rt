@@ -1,6 +1,10 @@
 //! The entries of the container: distinct pieces in the order of their coming, and what has become of each.
 
 ghost use Rattle.std.specs.Prelude.{ℕ, ◌≡◌, ◌<◌, ◌++◌, ◌∷◌, [], length, map, take, false, Some, slice_get, OnOk, OnErr, ◌^◌};
+ghost use Rattle.std.specs.Option.{option_map, option_copied};
+ghost use Rattle.qe_board.specs.Verdict.{fault_in};
+ghost use Rattle.qe_board.specs.Recorded.{links_of, links_at, is_leaf, has_failed};
+ghost use Rattle.qe_board.specs.Shown.{link_of};
 ghost use Rattle.qe_board.specs.State.{is_waiting, is_held, at};
 ghost use Rattle.qe_board.specs.Machine.{among, put, drop_waiting};
 ghost use Rattle.qe_board.specs.Shown.{condition, conditions, IsCopy, IsCopyAt, IsFound};
@@ -48,6 +52,40 @@ impl<N: Piece> Progress<N> {
         ensures { result ≡ is_held (condition self.now) }
     {
         matches!(self, Progress::Held(_))
+    }
+
+    /// The links of one that was expanded.
+    pub fn links(&self) -> &[Link]
+        ensures { map link_of result.now ≡ links_of (condition self.now) }
+    {
+        match self {
+            Progress::Expanded(links) => links.as_slice(),
+            _ => &[],
+        }
+    }
+
+    /// Whether it is a leaf.
+    pub fn is_leaf(&self) -> bool
+        ensures { result ≡ is_leaf (condition self.now) }
+    {
+        matches!(self, Progress::Leaf)
+    }
+
+    /// Whether it failed.
+    pub fn has_failed(&self) -> bool
+        ensures { result ≡ has_failed (condition self.now) }
+    {
+        matches!(self, Progress::Failed(_))
+    }
+
+    /// Why it failed.
+    pub fn fault(&self) -> Option<&N::Fault>
+        ensures { option_copied result ≡ fault_in (Some (condition self.now)) }
+    {
+        match self {
+            Progress::Failed(fault) => Some(fault),
+            _ => None,
+        }
     }
 }
 
@@ -103,6 +141,55 @@ impl<N: Piece> Entries<N> {
         ensures { result ≡ at is_waiting entry self.now }
     {
         self.progress[entry].waits()
+    }
+
+    // what has become of an entry
+    fn progress_of(&self, entry: usize) -> &Progress<N>
+        requires { entry < length self.now }
+        ensures { slice_get (conditions self.now) entry ≡ Some (condition result.now) }
+    {
+        &self.progress[entry]
+    }
+
+    /// The links of an entry.
+    pub fn links(&self, entry: usize) -> &[Link]
+        requires { entry < length self.now }
+        ensures { map link_of result.now ≡ links_at entry self.now }
+    {
+        self.progress_of(entry).links()
+    }
+
+    /// Whether an entry is a leaf.
+    pub fn is_leaf(&self, entry: usize) -> bool
+        requires { entry < length self.now }
+        ensures { result ≡ at is_leaf entry self.now }
+    {
+        self.progress_of(entry).is_leaf()
+    }
+
+    /// Whether an entry failed.
+    pub fn has_failed(&self, entry: usize) -> bool
+        requires { entry < length self.now }
+        ensures { result ≡ at has_failed entry self.now }
+    {
+        self.progress_of(entry).has_failed()
+    }
+
+    /// The piece of an entry.
+    pub fn piece(&self, entry: usize) -> Option<&N>
+        ensures { option_map N.key (option_copied result) ≡ slice_get (map (λ e. e.key) self.now) entry }
+    {
+        self.pieces.get_index(entry)
+    }
+
+    /// Why an entry failed.
+    pub fn fault(&self, entry: usize) -> Option<&N::Fault>
+        ensures { option_copied result ≡ fault_in (slice_get (conditions self.now) entry) }
+    {
+        match self.progress.get(entry) {
+            Some(progress) => progress.fault(),
+            None => None,
+        }
     }
 
     /// One more entry, whose piece is none so far. For want of memory nothing changes.

@@ -5,6 +5,7 @@ ghost use Rattle.qe_piece.specs.Meaning.{Meaning};
 ghost use Rattle.qe_board.specs.State.{Key};
 ghost use Rattle.qe_board.specs.Laws.{RunLaws, TreeLaws};
 ghost use Rattle.qe_board.specs.Tree.{Falls};
+ghost use Rattle.qe_board.specs.Places.{PlaceLaws};
 
 /// The laws of runs, over any pieces: nothing is taken after a leaf became true; each entry is taken at most once; there are
 /// at most two events an entry and one more; a stop means what it says; what is done stays done; the plain run, that of worker 0
@@ -23,4 +24,15 @@ pub fn runs_in_a_tree<F>()
         (limit : ℕ)
         → Falls meaning is_leaf truth height → 1 ≤ limit
         → TreeLaws meaning is_leaf truth height limit }
+{}
+
+/// The laws of first places, over any pieces whose successors have smaller heights. In every state of a run links go down to
+/// entries, the root is the first entry, and each entry can be reached from it by links. Once nothing is left to do and no
+/// stop is set, the first spots of the entries are the first places of the pieces of the tree, so that its leaves, its first
+/// piece that fails and its verdict can be read off them.
+pub fn first_places<F>()
+    ensures { (meaning : Key → Meaning F) (is_leaf truth : Key → Bool) (height : Key → ℕ)
+        (limit : ℕ)
+        → Falls meaning is_leaf truth height → 1 ≤ limit
+        → PlaceLaws meaning is_leaf truth height limit }
 {}

@@ -1,7 +1,9 @@
 //! The entries with what is counted of them, so that no question goes through them all.
 
 ghost use Rattle.std.specs.Prelude.{◌≡◌, ◌<◌, ◌≤◌, ◌++◌, ◌∷◌, [], ◌^◌, length, map, take, true, false, cond, Some, slice_get, OnOk, OnErr, IfOk, IfSome, IfNone};
-ghost use Rattle.qe_board.specs.State.{keys, count, is_waiting, is_held, leaf, waiting};
+ghost use Rattle.std.specs.Option.{option_map, option_copied};
+ghost use Rattle.qe_board.specs.Verdict.{fault_in};
+ghost use Rattle.qe_board.specs.State.{keys, count, is_waiting, is_held, is_unset, has_true_leaf, leaf, waiting};
 ghost use Rattle.qe_board.specs.Machine.{among, put, drop_waiting, waits_first, opened};
 ghost use Rattle.qe_board.specs.Shown.{condition, conditions, IsCopy, IsCopyAt, IsFound};
 ghost use Rattle.qe_board.specs.Counted.{first_true, if_below};
@@ -35,15 +37,15 @@ impl<N: Piece> Model for Roll<N> {
     ghost invariant = { λ r. IsCounted N.truth (record { entries = r.entries; stop = r.stopping }) r.next r.waiting r.held r.true_leaf };
 }
 
-/// What becomes of a piece first: a leaf is one, and all else waits, with a copy to hand out.
-pub fn opening<N: Piece>(alloc: Global, piece: &N) -> Result<Progress<N>, OutOfMemory>
-    ensures copy { IfOk result (λ p. IsCopy N.key (N.key piece.now) p) }
-    ensures condition { IfOk result (λ p. condition p ≡ cond (N.leaf (N.key piece.now)) leaf waiting) }
+/// What becomes of a piece first: a leaf is one, and all else waits, kept to be handed out.
+pub fn opening<N: Piece>(piece: N) -> Progress<N>
+    ensures copy { IsCopy N.key (N.key piece) result }
+    ensures condition { condition result ≡ cond (N.leaf (N.key piece)) leaf waiting }
 {
     if piece.is_leaf() {
-        Ok(Progress::Leaf)
+        Progress::Leaf
     } else {
-        Ok(Progress::Waiting(piece.copy(alloc)?))
+        Progress::Waiting(piece)
     }
 }
 
@@ -70,7 +72,7 @@ impl<N: Piece> Roll<N> {
     pub fn open(alloc: Global, root: N) -> Result<Roll<N>, OutOfMemory>
         ensures { IfOk result (λ r. r ≡ opened N.meaning N.leaf N.truth 0 (N.key root)) }
     {
-        let progress = opening(alloc, &root)?;
+        let progress = opening(root.copy(alloc)?);
         let mut roll = Roll {
             entries: Entries::new(alloc),
             next: 0,
@@ -117,6 +119,41 @@ impl<N: Piece> Roll<N> {
         ensures { result ≡ first_true N.truth (keys self.now) }
     {
         self.true_leaf
+    }
+
+    /// The entries.
+    pub fn entries(&self) -> &Entries<N>
+        ensures { result.now ≡ self.now.entries }
+    {
+        &self.entries
+    }
+
+    /// The piece of an entry.
+    pub fn piece(&self, entry: usize) -> Option<&N>
+        ensures { option_map N.key (option_copied result) ≡ slice_get (keys self.now) entry }
+    {
+        self.entries.piece(entry)
+    }
+
+    /// Why an entry failed.
+    pub fn fault(&self, entry: usize) -> Option<&N::Fault>
+        ensures { option_copied result ≡ fault_in (slice_get (conditions self.now.entries) entry) }
+    {
+        self.entries.fault(entry)
+    }
+
+    /// Whether a leaf is true.
+    pub fn has_true_leaf(&self) -> bool
+        ensures { result ≡ has_true_leaf N.truth self.now }
+    {
+        self.true_leaf.is_some()
+    }
+
+    /// Whether no stop is set.
+    pub fn is_unset(&self) -> bool
+        ensures { result ≡ is_unset self.now.stop }
+    {
+        matches!(self.stopping, Stopping::Unset)
     }
 
     // the first true leaf, once this piece is an entry too

@@ -1,0 +1,13 @@
+use Rattle.std.proofs.Common.{◌∙◌, sym, ap, subst}
+use Rattle.qe_board.specs.History.{IsKept}
+use Rattle.qe_board.proofs.Histories.{history_of}
+use Rattle.qe_board.proofs.Going.{held_here, fail_kept}
+use Rattle.qe_board.proofs.board.Board.fail.Goals as goal
+
+pub invariant_of-self : goal.invariant_of-self
+invariant_of-self g c =
+    subst (IsKept g.N.Piece.meaning g.N.Piece.leaf g.N.Piece.truth (history_of c.set.new.self c.self.inside.limit c.push_reserved.new.self.items) c.set.new.self) (sym c.push_reserved.ensures.capacity)
+    (fail_kept g.N.Piece.meaning g.N.Piece.leaf g.N.Piece.truth (record { worker = c.held.inside.worker; entry = c.held.inside.entry; key = g.N.Piece.key c.held.inside.piece }) c.self.inside.limit _ c.self.inside.roll c.set.new.self c.self.inside.journal.items c.push_reserved.new.self.items c.self.invariant
+    (held_here g.N.Piece.meaning g.N.Piece.leaf g.N.Piece.truth c.self.inside.roll c.self.inside.limit _ c.self.inside.journal.items c.args.self.now (record { worker = c.held.inside.worker; entry = c.held.inside.entry; key = g.N.Piece.key c.held.inside.piece }) c.args.held c.self.invariant c.self.view_is c.held.view_is c.requires.held) c.args.fault
+    (sym c.is_unset.ensures ∙ c.if-not-is_unset.false) (ap (λ h. g.N.Piece.meaning h.key) c.held.view_is ∙ c.requires.meaning)
+    c.set.ensures.changed c.push_reserved.ensures.items)
