@@ -4,7 +4,7 @@
 
 ghost use Rattle.std.specs.Prelude.{◌≡◌, ◌≢◌, ◌⊎◌, ◌∷◌, [], map, IfOk, IsErr};
 ghost use Rattle.std.specs.String.{string_bytes};
-ghost use Rattle.qe_program.specs.Asked.{AsksNothing};
+ghost use Rattle.qe_program.specs.Asked.{AsksNothing, ReadsNothing};
 
 use qe_base::{OutOfMemory, Sink, Source, StdSink, StdSource};
 use qe_program::{Status, run_alone};
@@ -43,7 +43,7 @@ fn outcome<S: Source, K: Sink>(
     ensures no_memory { IsErr words → (result ≡ Status.OutOfMemory) × (source.new ≡ source.old) }
     ensures sink_kept { (result ≡ Status.ReadFault) ⊎ (result ≡ Status.OutOfMemory)
         → sink.new ≡ sink.old }
-    ensures words { IfOk words (λ all. AsksNothing (map string_bytes all.items)
+    ensures words { IfOk words (λ all. ReadsNothing (map string_bytes all.items)
         → source.new ≡ source.old) }
     ensures answer { IfOk words (λ all. AsksNothing (map string_bytes all.items)
         → result ≢ Status.Ok) }

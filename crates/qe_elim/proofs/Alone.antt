@@ -13,7 +13,7 @@ use Rattle.qe_form.specs.Plain.{IsPlain}
 use Rattle.qe_form.specs.Blocks.{Block, under_each, under_blocks, bound_by}
 use Rattle.qe_tree.specs.Tree.{Step}
 use Rattle.qe_tree.specs.Sound.{IsReady}
-use Rattle.qe_tree.specs.Block.{matrix_for, given, stopped, block_over, eliminated_from, eliminated, EachBlock, AtBlock, Fits, IsWithin, IsBeyond, IfGiven}
+use Rattle.qe_tree.specs.Block.{root, matrix_for, given, stopped, block_over, eliminated_from, eliminated, EachBlock, AtBlock, IfGiven}
 use Rattle.qe_tree.proofs.Stands.{Stands, stands_itself}
 use Rattle.qe_tree.proofs.Growth.{fine_plain}
 use Rattle.qe_tree.proofs.Blocks.{StandsFine, block_stands}
@@ -24,7 +24,10 @@ use Rattle.qe_elim.specs.declared.eliminate.Outcome.{Outcome}
 use Rattle.qe_elim.specs.declared.eliminate.ElimStop.{ElimStop}
 use Rattle.qe_elim.specs.declared.eliminate.ElimStop.TheVariants as stop
 use Rattle.qe_elim.specs.Search.{steps_of}
-use Rattle.qe_elim.specs.Answer.{IsBlock, IsElimination, IsNoLimit}
+use Rattle.qe_board.specs.Machine.{replay}
+use Rattle.qe_board.proofs.PlainRuns.{only_one}
+use Rattle.qe_elim.specs.Keys.{meaning, is_leaf, truth, key_of, is_limit}
+use Rattle.qe_elim.specs.Answer.{KeepsLimit, GoesOn, StaysWithin, GoesBeyond, IsBlock, IsElimination, IsNoLimit}
 use Rattle.qe_elim.proofs.Soundness.{Good, sound}
 
 -- ---- numbers of blocks
@@ -59,7 +62,7 @@ module _ (m : Formula) where
   -- the blocks from this place on give the form, each fits, and the form is plain and stands for them over the matrix
   pub record IsEliminated (limit : ℕ) (bs : List Block) (left : ℕ) (g : Formula) : Type 0 where
     pub gives : eliminated_from expansion (suc left) (drop left bs) m ≡ given g
-    pub fits : EachBlock expansion (Fits expansion limit) (suc left) (drop left bs) m
+    pub fits : EachBlock expansion (GoesOn limit) (suc left) (drop left bs) m
     pub plain : IsPlain g
     pub stands : Stands (under_blocks (drop left bs) m) g
 
@@ -67,7 +70,7 @@ module _ (m : Formula) where
   pub none_eliminated : (limit : ℕ) (bs : List Block) (g : Formula) → IsPlain m → g ≡ m → IsEliminated limit bs (length bs) g
   none_eliminated limit bs g plain same = subst (IsEliminated limit bs (length bs)) (sym same) (record {
     gives = ap (λ cs. eliminated_from expansion (suc (length bs)) cs m) none;
-    fits = subst (λ cs. EachBlock expansion (Fits expansion limit) (suc (length bs)) cs m) (sym none) tt;
+    fits = subst (λ cs. EachBlock expansion (GoesOn limit) (suc (length bs)) cs m) (sym none) tt;
     plain = plain;
     stands = subst (λ cs. Stands (under_blocks cs m) m) (sym none) (stands_itself m);
   })
@@ -91,8 +94,8 @@ module _ (m : Formula) (limit : ℕ) (few : limit < 2 ^ 32) (bs : List Block) (k
   further : eliminated_from expansion (suc (suc k)) rest m ≡ given g
   further = ap (λ cs. eliminated_from expansion (suc (suc k)) cs m) (sym (drop_next k bs b rest at)) ∙ w.gives
 
-  further_fit : EachBlock expansion (Fits expansion limit) (suc (suc k)) rest m
-  further_fit = subst (λ cs. EachBlock expansion (Fits expansion limit) (suc (suc k)) cs m) (drop_next k bs b rest at) w.fits
+  further_fit : EachBlock expansion (GoesOn limit) (suc (suc k)) rest m
+  further_fit = subst (λ cs. EachBlock expansion (GoesOn limit) (suc (suc k)) cs m) (drop_next k bs b rest at) w.fits
 
   over_is : (n : ℕ) → n ≡ suc k → eliminated_from expansion (suc k) (drop k bs) m ≡ block_over expansion b n (given g)
   over_is n is = ap (λ cs. eliminated_from expansion (suc k) cs m) at ∙ ((λ i. block_over expansion b (suc k) (further i)) ∙ ap (λ j. block_over expansion b j (given g)) (sym is))
@@ -100,7 +103,7 @@ module _ (m : Formula) (limit : ℕ) (few : limit < 2 ^ 32) (bs : List Block) (k
   pub block_more : (n : ℕ) → n ≡ suc k → (f : Form) → IsBlock limit n b g (Ok f) → IsReady Good (matrix_for b.kind g) → IsEliminated m limit bs k (tree f)
   block_more n is f answer ready = record {
     gives = over_is n is ∙ answer.0;
-    fits = subst (λ cs. EachBlock expansion (Fits expansion limit) (suc k) cs m) (sym at) (further_fit, subst (IfGiven expansion (Fits expansion limit b)) (sym further) answer.1);
+    fits = subst (λ cs. EachBlock expansion (GoesOn limit) (suc k) cs m) (sym at) (further_fit, subst (IfGiven expansion (GoesOn limit b)) (sym further) answer.1);
     plain = fine_plain (tree f) after.fine;
     stands = subst (λ cs. Stands (under_blocks cs m) (tree f)) (sym at) after.stands;
   }
@@ -109,17 +112,17 @@ module _ (m : Formula) (limit : ℕ) (few : limit < 2 ^ 32) (bs : List Block) (k
       after = block_stands Good expansion sound b n (under_blocks rest m) g (tree f) (subst (λ cs. Stands (under_blocks cs m) g) (drop_next k bs b rest at) w.stands) ready answer.0
 
   pub more_small : (n : ℕ) (f : Form) → IsBlock limit n b g (Ok f) → IsReady Good (matrix_for b.kind g) → count g < 2 ^ 50 → count (tree f) < 2 ^ 50
-  more_small n f answer ready size = block_small Good expansion sound b n g (tree f) limit ready answer.0 answer.1 few size
+  more_small n f answer ready size = block_small Good expansion sound b n g (tree f) limit ready answer.0 answer.1.0 few size
 
   whole_stops : (j : ℕ) (path : List Step) (s : NodeStop) (cs : List Block) → drop k cs ≡ b ∷ rest → eliminated_from expansion 1 cs m ≡ stopped j path s → eliminated expansion cs m ≡ stopped j path s
   whole_stops j path s [] here e = absurd (not_empty k b rest here)
   whole_stops j path s (c ∷ cs) here e = e
 
   -- the block, by its number
-  block_is : (P : Block → Formula → Type 0) (j : ℕ) → j ≡ suc k → P b g → AtBlock expansion P (Fits expansion limit) j 1 bs m
+  block_is : (P : Block → Formula → Type 0) (j : ℕ) → j ≡ suc k → P b g → AtBlock expansion P (GoesOn limit) j 1 bs m
   block_is P j is p =
       let last : suc k ≡ k + 1 = omega arith in
-      subst (λ i. AtBlock expansion P (Fits expansion limit) i 1 bs m) (sym is) (at_place m P (Fits expansion limit) b rest g k 1 (suc k) last bs at further_fit further p)
+      subst (λ i. AtBlock expansion P (GoesOn limit) i 1 bs m) (sym is) (at_place m P (GoesOn limit) b rest g k 1 (suc k) last bs at further_fit further p)
 
   pub block_stops : (n : ℕ) → n ≡ suc k → (e : ElimStop) → IsBlock limit n b g (Err e) → IsElimination limit bs m (Err e)
   block_stops n is (stop.Node j path s) answer =
@@ -127,25 +130,28 @@ module _ (m : Formula) (limit : ℕ) (few : limit < 2 ^ 32) (bs : List Block) (k
       let last : suc k ≡ k + 1 = omega arith in
       let outward = stop_outward m n (steps_of path.items) s k 1 (suc k) last bs (over_is n is ∙ answer.1) in (
         whole_stops j (steps_of path.items) s bs at (outward ∙ ap (λ i. stopped i (steps_of path.items) s) (sym number)),
-        block_is (IsWithin expansion limit) j (number ∙ is) answer.2,
+        block_is (StaysWithin limit) j (number ∙ is) answer.2,
       )
-  block_stops n is (stop.NodeLimit j most) answer = (answer.1, block_is (IsBeyond expansion limit) j (answer.0 ∙ is) answer.2)
+  block_stops n is (stop.NodeLimit j most) answer = (answer.1, block_is (GoesBeyond limit) j (answer.0 ∙ is) answer.2)
   block_stops n is stop.OutOfMemory answer = tt
 
 -- the block at a place of the code's list
 pub block_at : (items : List Block) (k : ℕ) (b : Block) → k < length items → b ≡ get_or items k b → drop k items ≡ b ∷ drop (suc k) items
 block_at items k b within is = drop-cons items k b within ∙ ap (λ c. c ∷ drop (suc k) items) (sym is)
 
--- where a block has at most the limit's number of distinct nodes, it does not have more
-never_beyond : (limit k n : ℕ) (bs : List Block) (m : Formula) → EachBlock expansion (IsWithin expansion limit) n bs m → AtBlock expansion (IsBeyond expansion limit) (Fits expansion limit) k n bs m → ⊥
+-- where a block's plain run does not end by the limit, it does not end by it
+never_beyond : (limit k n : ℕ) (bs : List Block) (m : Formula) → EachBlock expansion (KeepsLimit limit) n bs m → AtBlock expansion (GoesBeyond limit) (GoesOn limit) k n bs m → ⊥
 never_beyond limit k n [] m each beyond = beyond
-never_beyond limit k n (b ∷ bs) m each (inl w) = clash (subst (IfGiven expansion (IsWithin expansion limit b)) w.1.1.1.0 each.1) w.1.1.1.1
+never_beyond limit k n (b ∷ bs) m each (inl w) = clash (subst (IfGiven expansion (KeepsLimit limit b)) w.1.1.1.0 each.1) w.1.1.1.1
   where
-    clash : IsWithin expansion limit b w.1.1.0 → IsBeyond expansion limit b w.1.1.0 → ⊥
-    clash within beyond = omega arith
+    clash : KeepsLimit limit b w.1.1.0 → GoesBeyond limit b w.1.1.0 → ⊥
+    clash keeps beyond =
+        let passes = beyond.1 in
+        let same = only_one meaning is_leaf truth limit (key_of b.vars (root b.kind w.1.1.0)) keeps.journal passes.journal keeps.plain passes.plain in
+        absurd (let e = sym keeps.ends ∙ (ap (λ es. is_limit (replay meaning is_leaf truth limit (key_of b.vars (root b.kind w.1.1.0)) es).stop) same ∙ passes.ends) in cc)
 never_beyond limit k n (b ∷ bs) m each (inr later) = never_beyond limit k (suc n) bs m each.0 later
 
-pub complete : (limit : ℕ) (bs : List Block) (m : Formula) (result : Result Outcome ElimStop) → IsElimination limit bs m result → EachBlock expansion (IsWithin expansion limit) 1 bs m → IsNoLimit result
+pub complete : (limit : ℕ) (bs : List Block) (m : Formula) (result : Result Outcome ElimStop) → IsElimination limit bs m result → EachBlock expansion (KeepsLimit limit) 1 bs m → IsNoLimit result
 complete limit bs m (Ok outcome) answer each = tt
 complete limit bs m (Err (stop.Node k path s)) answer each = tt
 complete limit bs m (Err (stop.NodeLimit k most)) answer each = never_beyond limit k 1 bs m each answer.1

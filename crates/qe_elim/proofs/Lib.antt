@@ -1,6 +1,8 @@
 pub mod Soundness
-pub mod Turns
 pub mod Alone
 pub mod Roots
-pub mod Growths
-pub mod Visits
+pub mod Bridge
+pub mod Paths
+pub mod Found
+pub mod Ended
+pub mod Telling

@@ -1,2 +1,6 @@
-pub mod Answer
+pub mod Keys
+pub mod Steps
 pub mod Search
+pub mod Answer
+pub mod Found
+pub mod Laws

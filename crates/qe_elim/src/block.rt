@@ -57,6 +57,7 @@ pub fn eliminate_block(
     requires short { length block.now.vars ≤ 65536 }
     requires plain { IsPlain (tree matrix) }
     requires small { count (tree matrix) < 2 ^ 50 }
+    requires some { 1 ≤ limit }
     ensures answer { IsBlock limit number block.now (tree matrix) result }
     ensures ready { IfOk result (λ _. IsReady IsSimplified
         (spec.matrix_for block.now.kind (tree matrix))) }

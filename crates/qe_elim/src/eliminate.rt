@@ -8,9 +8,9 @@ ghost use Rattle.qe_form.specs.Plain.{IsPlain};
 ghost use Rattle.qe_form.specs.Same.{Same, HasNoQuantifier};
 ghost use Rattle.qe_norm.specs.Prenex.{stands_for};
 ghost use Rattle.qe_form.specs.Blocks.{bound_by};
-ghost use Rattle.qe_tree.specs.Block.{EachBlock, IsWithin};
+ghost use Rattle.qe_tree.specs.Block.{EachBlock};
 ghost use Rattle.qe_node.specs.Successors.{expansion};
-ghost use Rattle.qe_elim.specs.Answer.{IsElimination, IsNoLimit};
+ghost use Rattle.qe_elim.specs.Answer.{KeepsLimit, IsElimination, IsNoLimit};
 
 use crate::block::eliminate_block;
 use crate::step::Step;
@@ -35,7 +35,7 @@ pub enum ElimStop {
         path: Vec<Step>,
         stop: NodeStop,
     },
-    /// The block's tree has more distinct nodes than the limit.
+    /// The plain run over the block's tree ends by the limit: the tree has more distinct nodes.
     NodeLimit {
         block: u32,
         limit: u32,
@@ -61,6 +61,7 @@ fn eliminate_blocks(alloc: Global, prenex: &Prenex, limit: u32) -> Result<Outcom
     requires short { All (λ b. length b.vars ≤ 65536) prenex.now.blocks.items }
     requires plain { IsPlain (tree prenex.now.matrix) }
     requires small { count (tree prenex.now.matrix) < 2 ^ 50 }
+    requires some { 1 ≤ limit }
     ensures answer { IsElimination limit prenex.now.blocks.items (tree prenex.now.matrix) result }
     ensures same { IfOk result (λ o. Same (stands_for prenex.now) (tree o.form)) }
     ensures plain { IfOk result (λ o. IsPlain (tree o.form)) }
@@ -81,13 +82,14 @@ fn eliminate_blocks(alloc: Global, prenex: &Prenex, limit: u32) -> Result<Outcom
 }
 
 /// A formula without quantifiers that means the same as the prenex form. The blocks are eliminated
-/// from the innermost, the nodes of a block depth first; of each block at most `limit` distinct
-/// nodes are visited. Where a leaf is True it decides, also over nodes that fail.
+/// from the innermost. The distinct nodes of a block stand in a container, at most `limit` of them,
+/// and are taken in the order of their coming. Where a leaf is True it decides, also over nodes that
+/// fail.
 ///
-/// `Node` comes where no leaf of the block is True and a node fails. `NodeLimit` comes where one
-/// more distinct node would pass the limit and none that was visited is a True leaf. Either is told
-/// of the innermost block where it comes. The method is that of Loos and Weispfenning 1993 and of
-/// Weispfenning 1997.
+/// `Node` comes where no leaf of the block is True and a node fails; of all such nodes the first in
+/// depth is told. `NodeLimit` comes exactly where the successors of a node would be more entries than
+/// the limit, and no leaf was True before they came. Either is told of the innermost block where it
+/// comes. The method is that of Loos and Weispfenning 1993 and of Weispfenning 1997.
 pub fn eliminate_alone(alloc: Global, prenex: &Prenex, limit: u32) -> Result<Outcome, ElimStop>
     requires distinct { IsDistinct nat_eq (bound_by prenex.now.blocks.items) }
     requires few { length prenex.now.blocks.items < 2 ^ 32 - 1 }
@@ -96,7 +98,7 @@ pub fn eliminate_alone(alloc: Global, prenex: &Prenex, limit: u32) -> Result<Out
     requires small { count (tree prenex.now.matrix) < 2 ^ 50 }
     requires some { 1 ≤ limit }
     ensures answer { IsElimination limit prenex.now.blocks.items (tree prenex.now.matrix) result }
-    ensures complete { EachBlock expansion (IsWithin expansion limit) 1 prenex.now.blocks.items
+    ensures complete { EachBlock expansion (KeepsLimit limit) 1 prenex.now.blocks.items
         (tree prenex.now.matrix) → IsNoLimit result }
     ensures same { IfOk result (λ o. Same (stands_for prenex.now) (tree o.form)) }
     ensures plain { IfOk result (λ o. IsPlain (tree o.form)) }

@@ -4,8 +4,10 @@
 
 mod block;
 mod eliminate;
+pub mod laws;
 mod search;
 mod step;
+mod steps;
 
 pub use eliminate::{ElimStop, Outcome, eliminate_alone};
 pub use qe_form::Var;

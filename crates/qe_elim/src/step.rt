@@ -1,7 +1,7 @@
 //! Steps of a path, and nodes at the ends of paths.
 
 use qe_form::Var;
-use qe_node::{Node, NodeStop};
+use qe_node::NodeStop;
 
 /// A step of a path from the root of a tree: the variable that is eliminated, and the number of its
 /// test point, counted from 0.
@@ -9,13 +9,6 @@ use qe_node::{Node, NodeStop};
 pub struct Step {
     pub var: Var,
     pub point: u64,
-}
-
-/// A node that is to be visited, and the steps to it.
-#[derive(Drop)]
-pub struct Waiting {
-    pub path: Vec<Step>,
-    pub node: Node,
 }
 
 /// A node that fails: the steps to it, and why.

@@ -2,3 +2,5 @@ pub mod Printed
 pub mod Replied
 pub mod Caused
 pub mod Told
+mod Requested
+mod Summarized

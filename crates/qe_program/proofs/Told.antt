@@ -8,8 +8,11 @@ use Rattle.qe_program.specs.declared.status.Status.{Status}
 use Rattle.qe_program.specs.declared.status.Status.TheVariants as status
 use Rattle.qe_program.specs.Headline.{Headline, Writes}
 use Rattle.qe_program.specs.Exact.{Exact, Constructive, Answers}
+use Rattle.qe_program.specs.Made.{IsText, IsDone}
+use Rattle.qe_program.specs.declared.asked.Request.{Request}
+use Rattle.qe_program.specs.Asked.{Asks}
 use Rattle.qe_program.specs.Reply.{Replies, Delivers}
-use Rattle.qe_program.proofs.Caused.{where_told, no_refusal}
+use Rattle.qe_program.proofs.Caused.{where_told, no_refusal, status_of_text}
 
 module _ (left taken taken_after : Option (List ℕ)) (limit : ℕ) where
   -- what is written where the status is Ok
@@ -28,11 +31,26 @@ module _ (left taken taken_after : Option (List ℕ)) (limit : ℕ) where
   pub headline : Writes left taken taken_after (Answers limit) → Writes left taken taken_after Headline
   headline h = where_told left _ _ (λ bytes w. let a = w.1 in (w.0, record { formula = a.formula; names = a.names; is_input = a.is_input; holds = a.holds.constructive.is_answer }, w.2)) h
 
-  pub exact : Writes left taken taken_after (Answers limit) → Writes left taken taken_after (Exact limit)
-  exact h = where_told left _ _ (λ bytes w. let a = w.1 in (w.0, record { formula = a.formula; names = a.names; is_input = a.is_input; holds = a.holds.exact }, w.2)) h
+  pub exact : (other : ℕ) → other ≡ limit → Writes left taken taken_after (Answers limit) → Writes left taken taken_after (Exact other)
+  exact other same h = subst (λ l. Writes left taken taken_after (Exact l)) (sym same) (where_told left _ _ (λ bytes w. let a = w.1 in (w.0, record { formula = a.formula; names = a.names; is_input = a.is_input; holds = a.holds.exact }, w.2)) h)
 
   pub constructive : Writes left taken taken_after (Answers limit) → Writes left taken taken_after Constructive
   constructive h = where_told left _ _ (λ bytes w. let a = w.1 in (w.0, record { formula = a.formula; names = a.names; is_input = a.is_input; holds = a.holds.constructive }, w.2)) h
+
+-- ---- a text for which nothing is read
+
+pub is_done : (request other : Request) (taken taken_after : Option (List ℕ)) (faults faults_after : ℕ) (reply : Result Reply AllocError) (answer : Status) → other ≡ request → IfOk reply (λ r. IsText request r.status r.text.items)
+    → Delivers reply answer taken taken_after faults faults_after → IsDone other answer taken taken_after
+is_done request other taken taken_after faults faults_after (Err e) answer same is d = inr (inr d)
+is_done request other taken taken_after faults faults_after (Ok reply) answer same is d =
+    elim d [
+      | inl whole ↦ inl (reply.text.items, subst (λ r. IsText r answer reply.text.items) (sym same) (subst (λ s. IsText request s reply.text.items) (sym whole.0) is), whole.1)
+      | inr cut ↦ inr (inl cut.0)
+    ]
+
+-- words that ask for one thing do not ask for another
+pub none_for : {A : Type 0} (words : List (List ℕ)) (request other : Request) → ((r : Request) → Asks words r → r ≡ request) → (other ≡ request → ⊥) → Asks words other → A
+none_for words request other only differs asks = absurd (differs (only other asks))
 
 -- ---- a call without a text
 
@@ -67,3 +85,13 @@ kept_reply taken taken_after faults faults_after limit bytes (Ok reply) answer r
         | inr e ↦ no_refusal reply.status status.OutOfMemory bad.0.why bad.0.status_is refl e
       ]
     ]
+
+pub kept_text : {A : Type 0} (request : Request) (taken taken_after : Option (List ℕ)) (faults faults_after : ℕ) (reply : Result Reply AllocError) (answer : Status) → IfOk reply (λ r. IsText request r.status r.text.items)
+    → Delivers reply answer taken taken_after faults faults_after → (IsErr reply → A) → IsSilent answer → A
+kept_text request taken taken_after faults faults_after (Err e) answer is d unwritten silence = kept taken taken_after faults faults_after (Err e) answer tt d unwritten silence
+kept_text request taken taken_after faults faults_after (Ok reply) answer is d unwritten silence =
+    kept taken taken_after faults faults_after (Ok reply) answer (loud (status_of_text request reply.status reply.text.items is)) d unwritten silence
+  where
+    loud : (reply.status ≡ status.Ok) ⊎ (reply.status ≡ status.NodeLimit) → IsSilent reply.status → ⊥
+    loud (inl e) s = silent reply.status status.Ok s e (λ c. cc) (λ c. cc)
+    loud (inr e) s = silent reply.status status.NodeLimit s e (λ c. cc) (λ c. cc)

@@ -9,6 +9,9 @@ use Rattle.qe_base.specs.Source.{HasMoreThan}
 use Rattle.qe_base.specs.Sink.{AppendsUpTo}
 use Rattle.qe_program.specs.Output.{usage_line, too_long_line}
 use Rattle.qe_program.specs.Exact.{Answers}
+use Rattle.qe_program.specs.declared.asked.Request.{Request}
+use Rattle.qe_program.specs.declared.asked.Request.TheVariants.{Eliminate}
+use Rattle.qe_program.specs.Made.{IsText}
 use Rattle.qe_program.specs.Asked.{Asks, AsksNothing}
 use Rattle.qe_program.specs.Refusal.{IsAnswered, Refusal, IsReason, IsSo, status_of, refusal_line, IsRefusal}
 
@@ -34,7 +37,11 @@ IsWithin bytes = length bytes ≤ 1048576
 
 -- the words ask for elimination with a limit of nodes of which this is so
 abbrev pub Asked : Run → (ℕ → Type 0) → Type 0
-Asked run P = (limit : ℕ) × Asks run.words limit × P limit
+Asked run P = (limit : ℕ) × Asks run.words (Eliminate limit) × P limit
+
+-- the words ask for something for which nothing is read, and whose text, with this status, is such
+abbrev pub AskedAlone : Run → Status → (List ℕ → Type 0) → Type 0
+AskedAlone run answer P = (request : Request) × Asks run.words request × ((text : List ℕ) × IsText request answer text × P text)
 
 -- the line of a refusal with this status was written; where the source tells its bytes, the reason holds of them
 pub record WroteRefusal (run : Run) (answer : Status) (limit : ℕ) : Type 0 where
@@ -55,6 +62,7 @@ abbrev pub IsOutput : Run → List ℕ → Type 0
 IsOutput run text =
     (AsksNothing run.words × (text ≡ usage_line))
     ⊎ Asked run (λ limit. IfSome run.left (λ bytes. IsReply limit bytes text))
+    ⊎ ((answer : Status) × AskedAlone run answer (λ alone. text ≡ alone))
 
 -- the sink took the front of a text of the call
 pub record WroteFront (run : Run) : Type 0 where
@@ -66,7 +74,7 @@ pub record WroteFront (run : Run) : Type 0 where
 -- where the words ask for elimination, the bytes told are few enough and stand for a formula that has an answer, and no count of faults rose, the status is Ok, or out of memory
 abbrev pub Completes : Run → Status → Type 0
 Completes run answer =
-    (limit : ℕ) → Asks run.words limit
+    (limit : ℕ) → Asks run.words (Eliminate limit)
     → IfSome run.left (λ bytes. IsWithin bytes → IsAnswered limit bytes
     → (Rose run.read_faults run.read_faults_after → ⊥)
     → (Rose run.write_faults run.write_faults_after → ⊥)
@@ -78,9 +86,9 @@ Refused run answer = Asked run (WroteRefusal run answer)
 
 -- Each status comes only for its cause. `OutOfMemory` may come in place of any.
 pub record Causes (run : Run) (answer : Status) : Type 0 where
-  -- the input was read to its end
-  pub ok : answer ≡ status.Ok → Asked run (λ limit. IfSome run.left (λ bytes. IsWithin bytes × (run.left_after ≡ Some [])))
-  -- the words give no job that eliminates
+  -- the input was read to its end; or nothing is to be read, and the text is that of status 0
+  pub ok : answer ≡ status.Ok → Asked run (λ limit. IfSome run.left (λ bytes. IsWithin bytes × (run.left_after ≡ Some []))) ⊎ AskedAlone run status.Ok (Wrote run)
+  -- the words give no job, or one that is not served
   pub usage : answer ≡ status.Usage → AsksNothing run.words × Wrote run usage_line
   -- the source's count of faults rose
   pub read_fault : answer ≡ status.ReadFault → Asked run (λ limit. Rose run.read_faults run.read_faults_after)
@@ -96,8 +104,8 @@ pub record Causes (run : Run) (answer : Status) : Type 0 where
   pub overflow : answer ≡ status.Overflow → Refused run status.Overflow
   -- at the first node that fails there are too many monomials, or an exponent is too high
   pub term_limit : answer ≡ status.TermLimit → Refused run status.TermLimit
-  -- a block has more nodes than the limit
-  pub node_limit : answer ≡ status.NodeLimit → Refused run status.NodeLimit
+  -- the plain run of a block ends by the limit, so its tree has more nodes: of the formula read, or of a generated input
+  pub node_limit : answer ≡ status.NodeLimit → Refused run status.NodeLimit ⊎ AskedAlone run status.NodeLimit (Wrote run)
   -- the sink's count of faults rose
   pub write_fault : answer ≡ status.WriteFault → Rose run.write_faults run.write_faults_after × WroteFront run
   pub complete : Completes run answer

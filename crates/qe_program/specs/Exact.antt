@@ -13,7 +13,7 @@ use Rattle.qe_program.specs.Headline.{Stands, IsAnswer}
 use Rattle.qe_program.specs.Refusal.{IsSmall}
 
 -- The text is the line of the formula that elimination gives, written with the names of the prenex
--- form. The prenex form is small, and no block has more nodes than the limit, but where a leaf is True.
+-- form. The prenex form is small, and no block's plain run ends by the limit.
 pub record IsEliminated (limit : ℕ) (text : List ℕ) (f : Formula) (names : List Letters) : Type 0 where
   pub small : IsSmall f
   pub eliminated : Formula

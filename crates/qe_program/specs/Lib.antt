@@ -5,5 +5,6 @@ pub mod Headline
 pub mod Asked
 pub mod Refusal
 pub mod Exact
+pub mod Made
 pub mod Causes
 pub mod Reply

@@ -5,9 +5,10 @@ use Rattle.qe_norm.specs.Blocks.{prefix, grouped}
 use Rattle.qe_norm.specs.Blocks as prenex
 use Rattle.qe_norm.specs.Prenex.{numbered_form}
 use Rattle.qe_form.specs.Blocks.{Block}
-use Rattle.qe_tree.specs.Block.{Eliminated, eliminated, EachBlock, AtBlock, Fits, IsWithin, IsBeyond}
+use Rattle.qe_tree.specs.Block.{Eliminated, eliminated, EachBlock, AtBlock}
 use Rattle.qe_node.specs.declared.stop.NodeStop.{NodeStop}
 use Rattle.qe_node.specs.Successors.{expansion}
+use Rattle.qe_elim.specs.Answer.{KeepsLimit, GoesOn, StaysWithin, GoesBeyond}
 use Rattle.qe_read.specs.Names.{Letters}
 
 -- the blocks of the prenex form, its matrix, and the names of its variables
@@ -24,20 +25,21 @@ all_names f names = (numbered_form f names).1.names
 abbrev pub outcome : Formula → List Letters → Eliminated NodeStop
 outcome f names = eliminated expansion (blocks f names) (matrix f names)
 
--- each block's tree has a leaf that is True, or no more distinct nodes than the limit
+-- no block's plain run ends by the limit, and each block's tree has a leaf that is True, or no more distinct nodes than the limit
 abbrev pub EachFits : ℕ → Formula → List Letters → Type 0
-EachFits limit f names = EachBlock expansion (Fits expansion limit) 1 (blocks f names) (matrix f names)
+EachFits limit f names = EachBlock expansion (GoesOn limit) 1 (blocks f names) (matrix f names)
 
--- each block's tree has no more distinct nodes than the limit
-abbrev pub EachIsWithin : ℕ → Formula → List Letters → Type 0
-EachIsWithin limit f names = EachBlock expansion (IsWithin expansion limit) 1 (blocks f names) (matrix f names)
+-- no block's plain run ends by the limit
+abbrev pub EachKeepsLimit : ℕ → Formula → List Letters → Type 0
+EachKeepsLimit limit f names = EachBlock expansion (KeepsLimit limit) 1 (blocks f names) (matrix f names)
 
--- The blocks further in than this one give its matrix, and the tree of each of them has a leaf that is True,
--- or no more distinct nodes than the limit; its own tree has no more, or more.
+-- The blocks further in than this one give its matrix, and no plain run of theirs ends by the limit. Nor does its own, and its
+-- tree has no more distinct nodes.
 abbrev pub BlockIsWithin : ℕ → Formula → List Letters → ℕ → Type 0
 BlockIsWithin limit f names k =
-    AtBlock expansion (IsWithin expansion limit) (Fits expansion limit) k 1 (blocks f names) (matrix f names)
+    AtBlock expansion (StaysWithin limit) (GoesOn limit) k 1 (blocks f names) (matrix f names)
 
+-- The same of those further in; its own plain run ends by the limit, and its tree has more distinct nodes.
 abbrev pub BlockIsBeyond : ℕ → Formula → List Letters → ℕ → Type 0
 BlockIsBeyond limit f names k =
-    AtBlock expansion (IsBeyond expansion limit) (Fits expansion limit) k 1 (blocks f names) (matrix f names)
+    AtBlock expansion (GoesBeyond limit) (GoesOn limit) k 1 (blocks f names) (matrix f names)

@@ -12,12 +12,24 @@ use Rattle.qe_tree.specs.Tree.{Step}
 use Rattle.qe_node.specs.declared.stop.NodeStop.{NodeStop}
 use Rattle.qe_node.specs.declared.stop.NodeStop.TheVariants as stop
 use Rattle.qe_print.specs.Name.{name_text}
+use Rattle.qe_print.specs.Formula.{formula_text}
+use Rattle.qe_gen.specs.Generated.{input_form, input_names}
 use Rattle.qe_read.specs.declared.fault.ReadFault.{ReadFault}
 use Rattle.qe_read.specs.declared.fault.ReadFault.TheVariants as read
 
 -- a text with a line feed at its end
 abbrev pub line : List ℕ → List ℕ
 line text = text ++ 10 ∷ []
+
+-- the generated input with this number
+abbrev pub made_line : ℕ → List ℕ
+made_line number = line (formula_text input_names (input_form number))
+
+-- what came of the generated input with this number: how many atoms the result has
+abbrev pub summary_text : (number count : ℕ) → List ℕ
+summary_text number count =
+    line (codes "number " ++ decimal number) ++ line (codes "input atoms 16")
+    ++ line (codes "blocks 1") ++ line (codes "result atoms " ++ decimal count)
 
 abbrev pub usage_line : List ℕ
 usage_line = line (codes "usage: qe [eliminate|answers|summary|make] [--workers W] [--nodes N] [--number K]")

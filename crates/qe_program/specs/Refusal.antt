@@ -16,7 +16,7 @@ use Rattle.qe_program.specs.declared.status.Status.{Status}
 use Rattle.qe_program.specs.declared.status.Status.TheVariants as status
 use Rattle.qe_program.specs.Headline.{Stands}
 use Rattle.qe_program.specs.Output.{fault_line, prenex_too_large_line, node_line, node_limit_line}
-use Rattle.qe_program.specs.Outcome.{outcome, all_names, EachIsWithin, BlockIsWithin, BlockIsBeyond}
+use Rattle.qe_program.specs.Outcome.{outcome, all_names, EachKeepsLimit, BlockIsWithin, BlockIsBeyond}
 
 -- the prenex form has at most 65,536 atoms, constants and quantifiers, or more
 abbrev pub IsSmall : Formula → Type 0
@@ -25,23 +25,23 @@ IsSmall f = prenex_size f ≤ 65536
 abbrev pub IsLarge : Formula → Type 0
 IsLarge f = 65536 < prenex_size f
 
--- the prenex form is small, elimination gives a formula, and no block has more nodes than the limit
+-- the prenex form is small, elimination gives a formula, and no block's plain run ends by the limit
 pub record HasAnswer (limit : ℕ) (f : Formula) (names : List Letters) : Type 0 where
   pub small : IsSmall f
   pub answer : Formula
   pub is_given : outcome f names ≡ given answer
-  pub within : EachIsWithin limit f names
+  pub within : EachKeepsLimit limit f names
 
 -- Elimination stops in this block, where this is the first node that fails, and why. The blocks further in
--- gave formulas, each by a True leaf or with no more nodes than the limit; and this block has no more.
+-- gave formulas. No plain run of theirs, nor of this block, ends by the limit.
 pub record HasFailingNode (limit : ℕ) (f : Formula) (names all : List Letters) (block : ℕ) (path : List Step) (why : NodeStop) : Type 0 where
   pub small : IsSmall f
   pub all_are : all ≡ all_names f names
   pub stops : outcome f names ≡ stopped block path why
   pub within : BlockIsWithin limit f names block
 
--- This block has more nodes than the limit. The blocks further in gave formulas, each by a True leaf or with
--- no more nodes than the limit.
+-- The plain run of this block ends by the limit, so its tree has more nodes. The blocks further in gave formulas, and no
+-- plain run of theirs ends by the limit.
 pub record HasLargeTree (limit : ℕ) (f : Formula) (names : List Letters) (block most : ℕ) : Type 0 where
   pub small : IsSmall f
   pub most_is : most ≡ limit
@@ -52,7 +52,7 @@ abbrev pub IsAnswered : ℕ → List ℕ → Type 0
 IsAnswered limit bytes = Stands bytes (HasAnswer limit)
 
 -- The first fault of an input; that its prenex form is too large; with the names of all variables, the first node of a block that fails,
--- by the steps to it, and why; or a block that has more nodes than the limit.
+-- by the steps to it, and why; or a block whose plain run ends by the limit.
 pub data Refusal : Type 0 where
   fault : ReadFault → Refusal
   prenex_too_large : Refusal

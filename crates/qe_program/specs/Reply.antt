@@ -14,8 +14,8 @@ use Rattle.qe_norm.specs.declared.blocks.Prenex.{Prenex}
 use Rattle.qe_norm.specs.Prenex.{stands_for}
 use Rattle.qe_tree.specs.Tree.{Step}
 use Rattle.qe_form.specs.Blocks.{Block}
-use Rattle.qe_tree.specs.Block.{given, stopped, eliminated, EachBlock, AtBlock, Fits}
-use Rattle.qe_tree.specs.Block as tree_of
+use Rattle.qe_elim.specs.Answer.{KeepsLimit, GoesOn, StaysWithin, GoesBeyond}
+use Rattle.qe_tree.specs.Block.{given, stopped, eliminated, EachBlock, AtBlock}
 use Rattle.qe_node.specs.declared.stop.NodeStop.{NodeStop}
 use Rattle.qe_node.specs.Successors.{expansion}
 use Rattle.qe_program.specs.declared.reply.Reply.{Reply}
@@ -37,7 +37,7 @@ Says status text reply = (reply.status ≡ status) × (reply.text.items ≡ text
 pub record RepliesByFormula (limit : ℕ) (bs : List Block) (m : Formula) (all : List Letters) (whole : Formula) (reply : Reply) : Type 0 where
   pub answer : Formula
   pub is_given : eliminated expansion bs m ≡ given answer
-  pub fits : EachBlock expansion (Fits expansion limit) 1 bs m
+  pub fits : EachBlock expansion (GoesOn limit) 1 bs m
   pub no_quantifier : HasNoQuantifier answer
   pub same : Same whole answer
   pub says : Says status.Ok (line (formula_text all answer)) reply
@@ -48,14 +48,14 @@ pub record RepliesByNode (limit : ℕ) (bs : List Block) (m : Formula) (all : Li
   pub path : List Step
   pub why : NodeStop
   pub stops : eliminated expansion bs m ≡ stopped block path why
-  pub within : AtBlock expansion (tree_of.IsWithin expansion limit) (Fits expansion limit) block 1 bs m
+  pub within : AtBlock expansion (StaysWithin limit) (GoesOn limit) block 1 bs m
   pub says : Says (stop_status why) (node_line all block path why) reply
 
--- the reply names a block that has more nodes than the limit
+-- the reply names a block whose plain run ends by the limit
 pub record RepliesByLimit (limit : ℕ) (bs : List Block) (m : Formula) (reply : Reply) : Type 0 where
   pub block : ℕ
-  pub beyond : AtBlock expansion (tree_of.IsBeyond expansion limit) (Fits expansion limit) block 1 bs m
-  pub not_within : EachBlock expansion (tree_of.IsWithin expansion limit) 1 bs m → ⊥
+  pub beyond : AtBlock expansion (GoesBeyond limit) (GoesOn limit) block 1 bs m
+  pub not_within : EachBlock expansion (KeepsLimit limit) 1 bs m → ⊥
   pub says : Says status.NodeLimit (node_limit_line block limit) reply
 
 abbrev pub RepliesToBlocks : ℕ → List Block → Formula → List Letters → Formula → Reply → Type 0

@@ -7,6 +7,7 @@ mod fault;
 mod reply;
 mod status;
 mod stop;
+mod summary;
 mod top;
 
 pub use status::Status;

@@ -5,19 +5,21 @@ ghost use Rattle.qe_form.specs.Tree.{tree};
 ghost use Rattle.qe_form.specs.Measures.{count};
 ghost use Rattle.qe_form.specs.Plain.{IsPlain};
 ghost use Rattle.qe_form.specs.Numbered.{IsWellNumbered};
+ghost use Rattle.qe_print.specs.Formula.{formula_text};
 ghost use Rattle.qe_norm.specs.Prenex as prenex_form;
 ghost use Rattle.qe_node.specs.declared.stop.NodeStop.{NodeStop};
 ghost use Rattle.qe_elim.specs.Search.{steps_of};
 ghost use Rattle.qe_program.specs.Reply.{Says, RepliesToPrenex, RepliesToFormula, RepliesToFault, Replies, Delivers};
 ghost use Rattle.qe_program.specs.Refusal.{limit_status, stop_status};
-ghost use Rattle.qe_program.specs.Output.{line, usage_line, too_long_line, prenex_too_large_line, node_line, node_limit_line};
+ghost use Rattle.qe_program.specs.Output.{line, made_line, usage_line, too_long_line, prenex_too_large_line, node_line, node_limit_line};
 
 use crate::fault::fault_line;
 use crate::status::Status;
 use crate::stop::{node_limit_line, node_line};
 use qe_base::{OutOfMemory, Sink, write_all};
 use qe_elim::{ElimStop, NodeStop, Step, eliminate_alone};
-use qe_form::Names;
+use qe_form::{Form, Names};
+use qe_gen::make;
 use qe_node::PolyLimit;
 use qe_norm::{NormStop, Prenex, normal};
 use qe_print::form_text;
@@ -112,7 +114,7 @@ fn node_fails(
 }
 
 /// The reply to a formula in whose elimination a block has more nodes than the limit.
-fn too_many_nodes(alloc: Global, block: u32, limit: u32) -> Result<Reply, OutOfMemory>
+pub fn too_many_nodes(alloc: Global, block: u32, limit: u32) -> Result<Reply, OutOfMemory>
     ensures { IfOk result (Says Status.NodeLimit (node_limit_line block limit)) }
 {
     Ok(Reply {
@@ -131,6 +133,27 @@ fn refusal(alloc: Global, fault: &ReadFault) -> Result<Reply, OutOfMemory>
     })
 }
 
+/// The reply that is a formula.
+fn by_formula(alloc: Global, form: &Form, names: &Names) -> Result<Reply, OutOfMemory>
+    ensures { IfOk result (Says Status.Ok (line (formula_text names.now (tree form.now)))) }
+{
+    let mut text = form_text(alloc, form, names)?;
+    text.push(b'\n')?;
+    Ok(Reply {
+        status: Status::Ok,
+        text,
+    })
+}
+
+/// The reply to words that ask for a generated input: that input.
+pub fn made(alloc: Global, number: u32) -> Result<Reply, OutOfMemory>
+    requires { number ≤ 999999 }
+    ensures { IfOk result (Says Status.Ok (made_line number)) }
+{
+    let input = make(alloc, number)?;
+    by_formula(alloc, &input.form, &input.names)
+}
+
 /// The reply to a formula in prenex form.
 fn reply_to_prenex(alloc: Global, prenex: &Prenex, limit: u32) -> Result<Reply, OutOfMemory>
     requires numbered { prenex_form.IsWellNumbered prenex.now }
@@ -140,14 +163,7 @@ fn reply_to_prenex(alloc: Global, prenex: &Prenex, limit: u32) -> Result<Reply, 
     ensures { IfOk result (RepliesToPrenex limit prenex.now) }
 {
     match eliminate_alone(alloc, prenex, limit) {
-        Ok(outcome) => {
-            let mut text = form_text(alloc, &outcome.form, &prenex.names)?;
-            text.push(b'\n')?;
-            Ok(Reply {
-                status: Status::Ok,
-                text,
-            })
-        }
+        Ok(outcome) => by_formula(alloc, &outcome.form, &prenex.names),
         Err(ElimStop::Node { block, path, stop }) => {
             node_fails(alloc, block, &path, &stop, &prenex.names)
         }
