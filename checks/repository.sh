@@ -44,10 +44,11 @@ commands() {
   command -v rt >/dev/null || echo 'rt is not there to be run'
 }
 
-# The repository stands alone: no text cites a paper, or one of its sections or demands, by number.
+# The repository stands alone: no text cites a paper, or one of its sections or demands, by number. A row of a table in
+# docs/PERFORMANCE.md holds measurements.
 citations() {
   git grep -nE '\b([Dd]ocument|[Pp]aper|[Ss]ection) 0?[0-9]\b|\b0[1-4]-[a-z]+\b|shared/[p]apers|\b[4]\.[0-9]{1,2}\b|\b[WDR][0-9]{1,2}\b|\b[T][1-5] \([a-h]\)' -- \
-    '*.rt' '*.antt' '*.md' '*.edit' '*.sh' crates.txt qe .ci
+    '*.rt' '*.antt' '*.md' '*.edit' '*.sh' crates.txt qe .ci | grep -v '^docs/PERFORMANCE.md:[0-9]*:|'
 }
 
 roots() { for file in crates/*/src/lib.rt crates/*/src/main.rt; do [ ! -f "$file" ] || grep -qF '#![tactic(auto)]' "$file" || echo "$file"; done; }

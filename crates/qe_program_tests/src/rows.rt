@@ -125,6 +125,12 @@ const ROWS: &[(&str, &str, u8, &str)] = &[
         "term limit: block 1 node root point 1 stage guard atom 0: exponent\n",
     ),
     ("--workers 17", "2 < 3", 1, USAGE),
+    (
+        "summary --number 1",
+        "",
+        0,
+        "number 1\ninput atoms 16\nblocks 1\nresult atoms 1\n",
+    ),
 ];
 
 #[test]
@@ -135,6 +141,21 @@ fn answers_rows(rt: HostRuntime) {
             "{words}: {input}"
         );
     }
+}
+
+/// Whether the status is 0 and the text begins so.
+fn begins(found: Result<(u8, Vec<u8>), AllocError>, front: &str) -> bool {
+    match found {
+        Ok((status, taken)) => status == 0 && taken.starts_with(front.as_bytes()),
+        Err(_) => false,
+    }
+}
+
+#[test]
+fn makes_an_input(rt: HostRuntime) {
+    let front =
+        "ex x1. ex x2. ex x3. [4*x1 + 9*x2 - 5*x3 + 5 <= 0 or 6*a - 2*x1 + 7*x2 - 3*x3 - 4 <= 0] and [";
+    assert!(rt; begins(run_row(rt.alloc(), "make --number 1", ""), front));
 }
 
 /// Appends a text so many times.
